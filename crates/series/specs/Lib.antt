@@ -1,0 +1,5 @@
+pub mod Series
+pub mod Refusals
+pub mod Verdicts
+pub mod Changes
+pub mod Good
