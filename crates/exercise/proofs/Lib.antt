@@ -1,0 +1,5 @@
+pub mod Casts
+pub mod Sides
+pub mod Ranks
+pub mod Assigning
+pub mod Leftovers
