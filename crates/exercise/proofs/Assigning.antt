@@ -3,17 +3,17 @@
 -- Assumes nothing.
 use mathlib.Core.Bool.{Bool, true, false}
 use mathlib.Core.Logic.{⊎-elim}
-use mathlib.Core.Path.{_≡_, refl, ap}
-use Prim.Native.Nat.{ℕ, zero, suc, _+_, _*_, _≤_, _<_}
+use mathlib.Core.Path.{_≡_, refl, ap, ap₂}
+use Prim.Native.Nat.{ℕ, zero, suc, _+_, _-_, _*_, _/_, _%_, _≤_, _<_}
 use native.Mathlib.Nat.{div-add-mod', mod-lt, mul-le-mul-right, zero-mul, zero-div, zero-sub, le-of-mul-le-mul-right, lt-of-mul-lt-mul-right, eq-zero-or-pos}
 use native.Mathlib.Decide.{decLt}
 use native.Mathlib.Omega.{arith}
 use borrow.Author.Tests.{ltb-true, ltb-false, lt-ltb, le-ltb}
 use lib.Dec.{ltb}
-use Rattle.integer.specs.NatSum.{sumℕ, sumℕ-add, sumℕ-none}
+use Rattle.integer.specs.NatSum.{sumℕ, sumℕ-ext, sumℕ-add, sumℕ-none}
 use Rattle.integer.specs.Count.{bit, count, count-most, count-mono}
 use Rattle.exercise.specs.Assignment.{wholePart, remainder, leftOver, ahead, rank, getsOne, assigned}
-use Rattle.exercise.proofs.Ranks.{larger, rank-less, rank-count}
+use Rattle.exercise.proofs.Ranks.{larger, rank-less, rank-count, rank-ext}
 
 -- the whole parts and the remainders add up
 parts : (n e o : ℕ) (w : ℕ → ℕ) → sumℕ n (wholePart e o w) * o + sumℕ n (remainder e o w) ≡ e * sumℕ n w
@@ -116,3 +116,17 @@ pub never-past : (n e : ℕ) (w : ℕ → ℕ) (j k : ℕ) → j < n → ahead (
 never-past n e w j k b a g =
     let r = remainder e (sumℕ n w) w in
     lt-ltb (rank n r j) (leftOver n e w) (omega (arith, rank-less n r j k b a, ltb-true (rank n r k) (leftOver n e w) g))
+
+-- what is assigned follows from what is exercised and from what each of the n places is short
+pub assigned-ext : (n e : ℕ) (w v : ℕ → ℕ) → ((k : ℕ) → k < n → w k ≡ v k) → (k : ℕ) → k < n → assigned n e w k ≡ assigned n e v k
+unfolding assigned
+assigned-ext n e w v h k l =
+    ap₂ (λ (x : ℕ) (t : Bool). x + bit t) (whole k l)
+    (ap₂ ltb (rank-ext n (remainder e (sumℕ n w) w) (remainder e (sumℕ n v) v) (λ j m. ap₂ (λ (o x : ℕ). e * x % o) all (h j m)) k l)
+    (ap (λ (x : ℕ). e - x) (sumℕ-ext n (wholePart e (sumℕ n w) w) (wholePart e (sumℕ n v) v) whole)))
+  where
+    all : sumℕ n w ≡ sumℕ n v
+    all = sumℕ-ext n w v h
+
+    whole : (j : ℕ) → j < n → wholePart e (sumℕ n w) w j ≡ wholePart e (sumℕ n v) v j
+    whole j m = ap₂ (λ (o x : ℕ). e * x / o) all (h j m)

@@ -3,3 +3,5 @@ pub mod Sides
 pub mod Ranks
 pub mod Assigning
 pub mod Leftovers
+pub mod Session
+pub mod Arrays

@@ -2,7 +2,7 @@
 -- places; only the code fixes it.
 use mathlib.Core.Bool.{Bool, false}
 use mathlib.Core.List.{List}
-use Prim.Native.Nat.{ℕ}
+use Prim.Native.Nat.{ℕ, _≤_}
 use lib.ListN.{getD}
 
 -- how many places the code's arrays have
@@ -19,3 +19,7 @@ amount l k = getD l k 0
 
 abbrev pub flag : List Bool → ℕ → Bool
 flag l k = getD l k false
+
+-- each number of an array is at most B
+pub record AtMost (B : ℕ) (l : List ℕ) : Type 0 where
+  pub each : (k : ℕ) → amount l k ≤ B
