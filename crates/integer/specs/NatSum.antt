@@ -7,6 +7,8 @@ use native.Mathlib.Nat.{le-of-suc-le-suc}
 use native.Mathlib.Numerals.{add-one}
 use native.Mathlib.Decide.{ℕ-discrete}
 use native.Mathlib.Omega.{arith}
+use lib.IntN.{pos}
+use Rattle.integer.specs.Sum.{sumTo}
 
 -- f 0 + f 1 + .. + f (n - 1)
 unfoldable pub sumℕ : ℕ → (ℕ → ℕ) → ℕ
@@ -42,6 +44,12 @@ pub sumℕ-none : (n : ℕ) (f : ℕ → ℕ) → ((k : ℕ) → k < n → f k �
 unfolding sumℕ
 sumℕ-none zero f h = refl
 sumℕ-none (suc n) f h = omega (arith, sumℕ-none n f (λ k lt. h k (omega arith)), h n (omega arith))
+
+-- as a sum of integers
+pub sum-pos : (n : ℕ) (f : ℕ → ℕ) → sumTo n (λ k. pos (f k)) ≡ pos (sumℕ n f)
+unfolding sumℕ sumTo
+sum-pos zero f = refl
+sum-pos (suc n) f = rw (sum-pos n f) refl
 
 -- ---- the order
 

@@ -1,0 +1,105 @@
+-- The arrays that `evening` works out one from another, and that the last is the outcome.
+-- Assumes nothing.
+use mathlib.Core.Bool.{Bool}
+use mathlib.Core.List.{List}
+use mathlib.Core.Path.{_≡_, refl, sym, ap, ap₂, subst, _∙_}
+use Prim.Native.Nat.{ℕ, _≤_, _<_, _^_}
+use native.Mathlib.Nat.{le-trans}
+use native.Mathlib.Decide.{decLt}
+use native.Mathlib.Omega.{arith}
+use lib.IntN.{ℤ, pos}
+use lib.ListN.{length, getD-replicate, replicate, List·getD-eq-default}
+use Rattle.integer.specs.Absolute.{abs-parts}
+use Rattle.integer.specs.Bounds.{Bounded}
+use Rattle.integer.specs.NatSum.{sumℕ, sumℕ-ext, sumℕ-bound}
+use Rattle.integer.specs.Sum.{sumTo, at}
+use Rattle.integer.specs.Table.{table, length-table, getD-table, is-table, table-ext}
+use Rattle.exercise.specs.declared.types.Fixing.{Fixing}
+use Rattle.exercise.specs.declared.types.Outcome.{Outcome}
+use Rattle.exercise.specs.Places.{places, limit, amount, flag, AtMost}
+use Rattle.exercise.specs.Exercise.{held, short, exercised}
+use Rattle.exercise.specs.Assignment.{assigned}
+use Rattle.exercise.specs.Evening.{shrunk, futures, settled, exercisedAt, exercisedInAll, assignedAt, remaining, arisen, outcome}
+use Rattle.exercise.proofs.Assigning.{assigned-ext, assigned-no-more}
+use Rattle.exercise.proofs.Session.{exercised-no-more, exercised-covered, all-remain, none-arise}
+
+-- an array that is a table has the table's numbers
+amount-table : (n : ℕ) (f : ℕ → ℕ) (l : List ℕ) → l ≡ table n f → (k : ℕ) → k < n → amount l k ≡ f k
+amount-table n f l e k lt = ap (λ (m : List ℕ). amount m k) e ∙ getD-table n f k 0 lt
+
+at-most-table : {B n : ℕ} (f : ℕ → ℕ) (l : List ℕ) → l ≡ table n f → ((k : ℕ) → k < n → f k ≤ B) → AtMost B l
+at-most-table {B} {n} f l e h = record { each = λ k. by k (decLt k n) }
+  where
+    by : (k : ℕ) → Dec (k < n) → amount l k ≤ B
+    by k (yes lt) = rw (amount-table n f l e k lt) (h k lt)
+    by k (no ge) = rw (List·getD-eq-default l 0 {n = k} (omega (arith, ap length e ∙ length-table n f))) (omega arith)
+
+module _ (fixing : Fixing) (positions : List ℤ) (requests : List ℕ) (declined : List Bool) (bounded : Bounded limit positions)
+    (xs : List ℕ) (e : ℕ) (xs-is : xs ≡ table places (exercisedAt places fixing (at positions) (amount requests) (flag declined)))
+    (e-is : e ≡ sumℕ places (amount xs)) where
+  abbrev x : ℕ → ℕ
+  x = exercisedAt places fixing (at positions) (amount requests) (flag declined)
+
+  xs-at : (k : ℕ) → k < places → amount xs k ≡ x k
+  xs-at = amount-table places x xs xs-is
+
+  in-all : e ≡ exercisedInAll places fixing (at positions) (amount requests) (flag declined)
+  in-all = e-is ∙ sumℕ-ext places (amount xs) x xs-at
+
+  pub exercised-few : AtMost limit xs
+  exercised-few =
+      at-most-table x xs xs-is
+      (λ k lt. omega (arith, exercised-no-more fixing (at positions k) (amount requests k) (flag declined k), bounded .each k .abs, abs-parts (at positions k)))
+
+  -- nothing is exercised
+  pub nothing-done : length positions ≡ places → e ≡ 0
+      → _≡_ {A = Outcome} (record { positions = positions; futures = replicate places (pos 0) }) (outcome fixing positions requests declined)
+  unfolding outcome
+  nothing-done long z =
+      let none : exercisedInAll places fixing (at positions) (amount requests) (flag declined) ≡ 0 = sym in-all ∙ z in
+      λ i. record {
+        positions = is-table places (remaining places fixing (at positions) (amount requests) (flag declined)) positions (pos 0) long
+            (λ k lt. sym (all-remain places fixing (at positions) (amount requests) (flag declined) none k lt)) i;
+        futures = is-table places (arisen places fixing (at positions) (amount requests) (flag declined)) (replicate places (pos 0)) (pos 0) refl
+            (λ k lt. getD-replicate places k (pos 0) (pos 0) lt ∙ sym (none-arise places fixing (at positions) (amount requests) (flag declined) none k lt)) i;
+      }
+
+  module _ (level : sumTo places (at positions) ≡ pos 0) (shorts : List ℕ) (shorts-is : shorts ≡ table places (λ k. short (at positions k))) where
+    shorts-at : (k : ℕ) → k < places → amount shorts k ≡ short (at positions k)
+    shorts-at = amount-table places (λ k. short (at positions k)) shorts shorts-is
+
+    shorts-in-all : sumℕ places (amount shorts) ≡ sumℕ places (λ k. short (at positions k))
+    shorts-in-all = sumℕ-ext places (amount shorts) (λ k. short (at positions k)) shorts-at
+
+    -- what `assign` asks
+    pub enough : e ≤ sumℕ places (amount shorts)
+    enough = omega (arith, in-all, shorts-in-all, exercised-covered places fixing (at positions) (amount requests) (flag declined) level)
+
+    pub in-range : sumℕ places (amount shorts) < 2 ^ 32
+    in-range =
+        omega (
+          arith,
+          shorts-in-all,
+          sumℕ-bound places limit (λ k. short (at positions k)) (λ k lt. omega (arith, bounded .each k .abs, abs-parts (at positions k))),
+        )
+
+    module _ (given : List ℕ) (given-is : given ≡ table places (assigned places e (amount shorts))) where
+      pub assigned-few : AtMost limit given
+      assigned-few =
+          at-most-table (assigned places e (amount shorts)) given given-is
+          (λ k lt. omega (arith, assigned-no-more places e (amount shorts) enough k, shorts-at k lt, bounded .each k .abs, abs-parts (at positions k)))
+
+      given-at : (k : ℕ) → k < places → amount given k ≡ assignedAt places fixing (at positions) (amount requests) (flag declined) k
+      given-at k lt =
+          amount-table places (assigned places e (amount shorts)) given given-is k lt
+          ∙ assigned-ext places e (amount shorts) (λ j. short (at positions j)) shorts-at k lt
+          ∙ ap (λ (m : ℕ). assigned places m (λ j. short (at positions j)) k) in-all
+
+      pub all-done : settled (fixing .option) (at positions) (amount xs) (amount given) ≡ outcome fixing positions requests declined
+      unfolding outcome remaining arisen
+      all-done = λ i. record {
+        positions = table-ext places (λ k. shrunk (at positions k) (amount xs k) (amount given k)) (remaining places fixing (at positions) (amount requests) (flag declined))
+            (λ k lt. ap₂ (shrunk (at positions k)) (xs-at k lt) (given-at k lt)) i;
+        futures = table-ext places (λ k. futures (fixing .option) (amount xs k) (amount given k)) (arisen places fixing (at positions) (amount requests) (flag declined))
+            (λ k lt. ap₂ (futures (fixing .option)) (xs-at k lt) (given-at k lt)) i;
+      }

@@ -1,0 +1,35 @@
+-- Who is assigned (01, "Assignment"): exercised contracts go to the writers by largest remainders.
+-- There are n places; the writer at place k is short `w k`, 0 where nobody is; `e` contracts are exercised in all, and `o` is what
+-- all writers are short.
+use mathlib.Core.Bool.{Bool, _&&_, _||_}
+use Prim.Native.Nat.{ℕ, _+_, _-_, _*_, _/_, _%_}
+use lib.Dec.{ltb, eqb}
+use Rattle.integer.specs.NatSum.{sumℕ}
+use Rattle.integer.specs.Count.{bit, count}
+
+-- the whole part of e × w / o, and its remainder
+abbrev pub wholePart : ℕ → ℕ → (ℕ → ℕ) → ℕ → ℕ
+wholePart e o w k = e * w k / o
+
+abbrev pub remainder : ℕ → ℕ → (ℕ → ℕ) → ℕ → ℕ
+remainder e o w k = e * w k % o
+
+-- the contracts left over once each writer has its whole part
+abbrev pub leftOver : ℕ → ℕ → (ℕ → ℕ) → ℕ
+leftOver n e w = e - sumℕ n (wholePart e (sumℕ n w) w)
+
+-- with remainders r, place j is ahead of place k: its remainder is larger, or equal and the place is the lower one
+abbrev pub ahead : (ℕ → ℕ) → ℕ → ℕ → Bool
+ahead r j k = ltb (r k) (r j) || (eqb (r j) (r k) && ltb j k)
+
+-- how many places are ahead of place k
+unfoldable pub rank : ℕ → (ℕ → ℕ) → ℕ → ℕ
+rank n r k = count n (λ j. ahead r j k)
+
+-- place k gets one of the contracts left over: fewer places are ahead of it than there are such contracts
+abbrev pub getsOne : ℕ → ℕ → (ℕ → ℕ) → ℕ → Bool
+getsOne n e w k = ltb (rank n (remainder e (sumℕ n w) w) k) (leftOver n e w)
+
+-- what the writer at place k is assigned
+unfoldable pub assigned : ℕ → ℕ → (ℕ → ℕ) → ℕ → ℕ
+assigned n e w k = wholePart e (sumℕ n w) w k + bit (getsOne n e w k)

@@ -1,0 +1,83 @@
+// What an evening's exercise does to a series: who exercises, who is assigned, the positions that remain and the futures
+// that arise.
+pub mod types;
+pub mod sum;
+pub mod holder;
+pub mod writer;
+
+use terms::OptionType;
+use types::{Fixing, Outcome, PLACES};
+ghost use mathlib.Core.Path.{_≡_};
+ghost use Prim.Native.Nat.{_≤_};
+ghost use lib.IntN.{pos};
+ghost use Rattle.integer.specs.Bounds.{Within, Bounded};
+ghost use Rattle.integer.specs.Sum.{sumTo, at};
+ghost use Rattle.integer.specs.Table.{table};
+ghost use Rattle.exercise.specs.Places.{places, limit, amount, AtMost};
+ghost use Rattle.exercise.specs.Evening as rule;
+
+// The position that remains once contracts of it were exercised or assigned.
+pub fn shrunk(position: i32, exercised: u32, assigned: u32) -> i32
+    requires { ⌜ (Within limit position) × (exercised ≤ limit) × (assigned ≤ limit) ⌝ }
+    ensures { λ r. ⌜ r ≡ rule.shrunk position exercised assigned ⌝ }
+{
+    position - (exercised as i32) + (assigned as i32)
+}
+
+// The futures that arise from what a holder exercised and a writer was assigned.
+pub fn futures(option: OptionType, exercised: u32, assigned: u32) -> i32
+    requires { ⌜ (exercised ≤ limit) × (assigned ≤ limit) ⌝ }
+    ensures { λ r. ⌜ r ≡ rule.futures option exercised assigned ⌝ }
+{
+    match option {
+        OptionType::Call => (exercised as i32) - (assigned as i32),
+        OptionType::Put => (assigned as i32) - (exercised as i32),
+    }
+}
+
+// Both at each place.
+fn settled(
+    option: OptionType,
+    positions: [i32; PLACES],
+    exercised: [u32; PLACES],
+    assigned: [u32; PLACES],
+) -> Outcome
+    requires { ⌜ (Bounded limit positions) × (AtMost limit exercised) × (AtMost limit assigned) ⌝ }
+    ensures { λ r. ⌜ r ≡ rule.settled option (at positions) (amount exercised) (amount assigned) ⌝ }
+{
+    let mut remaining = [0i32; PLACES];
+    let mut arisen = [0i32; PLACES];
+    let mut place: usize = 0;
+    while place < PLACES {
+        remaining[place] = shrunk(positions[place], exercised[place], assigned[place]);
+        arisen[place] = futures(option, exercised[place], assigned[place]);
+        place += 1;
+    }
+    Outcome {
+        positions: remaining,
+        futures: arisen,
+    }
+}
+
+// What the exercise of an evening leaves of a series whose positions add up to 0.
+pub fn evening(
+    fixing: Fixing,
+    positions: [i32; PLACES],
+    requests: [u32; PLACES],
+    declined: [bool; PLACES],
+) -> Outcome
+    requires { ⌜ (Bounded limit positions) × (sumTo places (at positions) ≡ pos 0) ⌝ }
+    ensures { λ r. ⌜ r ≡ rule.outcome fixing positions requests declined ⌝ }
+{
+    let exercised = holder::exercised_by_place(fixing, positions, requests, declined);
+    let in_all = sum::total(exercised);
+    if in_all == 0 {
+        return Outcome {
+            positions: positions,
+            futures: [0i32; PLACES],
+        };
+    }
+    let assigned = writer::assign(in_all, writer::short_by_place(positions));
+    let option = fixing.option;
+    settled(option, positions, exercised, assigned)
+}

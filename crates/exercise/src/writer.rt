@@ -1,0 +1,76 @@
+use crate::sum::{total, wide};
+use crate::types::{Shares, PLACES};
+ghost use mathlib.Core.Path.{_≡_};
+ghost use Prim.Native.Nat.{_≤_, _<_, _^_};
+ghost use Rattle.integer.specs.NatSum.{sumℕ};
+ghost use Rattle.integer.specs.Sum.{at};
+ghost use Rattle.integer.specs.Table.{table};
+ghost use Rattle.exercise.specs.Places.{places, amount};
+ghost use Rattle.exercise.specs.Exercise as rule;
+ghost use Rattle.exercise.specs.Assignment.{wholePart, remainder, assigned};
+
+// The contracts that a position is short, 0 where it holds.
+pub fn short(position: i32) -> u32
+    ensures { λ r. ⌜ r ≡ rule.short position ⌝ }
+{
+    if position < 0 { (-(position as i64)) as u32 } else { 0 }
+}
+
+// The same at each place of a series.
+pub fn short_by_place(positions: [i32; PLACES]) -> [u32; PLACES]
+    ensures { λ r. ⌜ r ≡ table places (λ k. rule.short (at positions k)) ⌝ }
+{
+    let mut out = [0u32; PLACES];
+    let mut place: usize = 0;
+    while place < PLACES {
+        out[place] = short(positions[place]);
+        place += 1;
+    }
+    out
+}
+
+// Each writer's share of `exercised` contracts, where the writers are short `interest` in all.
+fn shares(exercised: u64, interest: u64, shorts: [u32; PLACES]) -> Shares
+    requires { ⌜ (0 < interest) × (exercised ≤ interest) × (interest < 2 ^ 32) ⌝ }
+    ensures { λ r. ⌜ r ≡ record { whole = table places (wholePart exercised interest (amount shorts)); remainder = table places (remainder exercised interest (amount shorts)) } ⌝ }
+{
+    let mut whole = [0u32; PLACES];
+    let mut rest = [0u32; PLACES];
+    let mut place: usize = 0;
+    while place < PLACES {
+        let product = exercised * wide(shorts[place]);
+        whole[place] = (product / interest) as u32;
+        rest[place] = (product % interest) as u32;
+        place += 1;
+    }
+    Shares {
+        whole: whole,
+        remainder: rest,
+    }
+}
+
+// What each writer is assigned of `exercised` contracts: its whole part, and one more for each largest remainder while
+// contracts are left over. A remainder that got one is out of the search.
+pub fn assign(exercised: u64, shorts: [u32; PLACES]) -> [u32; PLACES]
+    requires { ⌜ (exercised ≤ sumℕ places (amount shorts)) × (sumℕ places (amount shorts) < 2 ^ 32) ⌝ }
+    ensures { λ r. ⌜ r ≡ table places (assigned places exercised (amount shorts)) ⌝ }
+{
+    if exercised == 0 {
+        return [0u32; PLACES];
+    }
+    let parts = shares(exercised, total(shorts), shorts);
+    let mut out = parts.whole;
+    let mut rest = parts.remainder;
+    let left = exercised - total(out);
+    for _ in 0..left {
+        let mut largest: usize = 0;
+        for place in 1..PLACES {
+            if rest[largest] < rest[place] {
+                largest = place;
+            }
+        }
+        out[largest] += 1;
+        rest[largest] = 0;
+    }
+    out
+}
