@@ -12,7 +12,7 @@ use Rattle.margin.proofs.amounts.revalue.Statement.{statement}
 use Rattle.margin.proofs.amounts.revalue.Tie as tie
 
 abbrev Inv-loop : tie.InvT-loop
-Inv-loop now before money positions opening out₀ a₀ out a = 
+Inv-loop now before money positions opening out₀ a₀ out a =
     (a ≤ 64) × Filled 64 a out (pos 0) (λ k. at money k +ℤ revalued (at positions k) (pos now) (at opening k) (pos before))
 
 abbrev μ-loop : tie.MeasureT-loop

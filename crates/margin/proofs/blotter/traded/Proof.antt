@@ -126,8 +126,8 @@ loop-again c =
     let out = l .before .loop .out in (
       omega arith,
       rw (moved-is w64 out (trade l .buyer) (trade l .seller) (w .apart) (bounded l) (owed (c .before .before)) tt tt)
-      (rw-filled (λ a. sym (traded-next (l .before .before .args .t1) (l .before .before .args .t3) (l .before .loop .k) a))
-      (paid-over (coefficient l) (trade l) (w .apart) out _ (w .buyer) (w .seller) (l .before .loop .inv .1))),
+          (rw-filled (λ a. sym (traded-next (l .before .before .args .t1) (l .before .before .args .t3) (l .before .loop .k) a))
+          (paid-over (coefficient l) (trade l) (w .apart) out _ (w .buyer) (w .seller) (l .before .loop .inv .1))),
     )
 
 returns : tie.Need-returns Inv-loop μ-loop
