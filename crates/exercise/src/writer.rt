@@ -59,12 +59,9 @@ fn shares(exercised: u64, interest: u64, shorts: [u32; PLACES]) -> Shares
 // What each writer is assigned of `exercised` contracts: its whole part, and one more at the largest remainder for each
 // contract left over. A place that got one is out of the search.
 fn by_largest_remainders(exercised: u64, shorts: [u32; PLACES]) -> [u32; PLACES]
-    requires { ⌜ (exercised ≤ sumℕ places (amount shorts)) × (sumℕ places (amount shorts) < 2 ^ 32) ⌝ }
+    requires { ⌜ (0 < exercised) × (exercised ≤ sumℕ places (amount shorts)) × (sumℕ places (amount shorts) < 2 ^ 32) ⌝ }
     ensures { λ r. ⌜ r ≡ table places (assigned places exercised (amount shorts)) ⌝ }
 {
-    if exercised == 0 {
-        return [0u32; PLACES];
-    }
     let parts = shares(exercised, total(shorts), shorts);
     let mut out = parts.whole;
     let mut rest = parts.remainder;
@@ -87,5 +84,8 @@ pub fn assign(exercised: u64, positions: [i32; PLACES]) -> [u32; PLACES]
     requires { ⌜ (Bounded limit positions) × (exercised ≤ sumℕ places (λ k. rule.short (at positions k))) ⌝ }
     ensures { λ r. ⌜ r ≡ table places (assigned places exercised (λ k. rule.short (at positions k))) ⌝ }
 {
+    if exercised == 0 {
+        return [0u32; PLACES];
+    }
     by_largest_remainders(exercised, short_by_place(positions))
 }

@@ -1,20 +1,18 @@
 -- `by_largest_remainders` meets its contract: after each turn one place more is served, in the order of their ranks. Assumes nothing.
 use borrow.Author.Needs.{needs}
 use mathlib.Core.Logic.{⊎-elim}
-use mathlib.Core.Path.{_≡_, refl, sym, ap, _∙_, subst}
+use mathlib.Core.Path.{_≡_, sym, ap, _∙_, subst}
 use Prim.Native.Nat.{ℕ, _≤_, _<_, _-_, _+_}
 use native.Mathlib.Omega.{arith}
 use lib.Dec.{ltb}
-use lib.ListN.{getD-replicate}
 use borrow.Author.Tests.{le-ltb}
 use mathlib.Core.List.{List}
 use Rattle.integer.specs.NatSum.{sumℕ, sumℕ-term}
 use Rattle.integer.specs.Count.{bit, count, count-most}
-use Rattle.integer.specs.Table.{table, is-table}
+use Rattle.integer.specs.Table.{table}
 use Rattle.exercise.specs.declared.types.Shares.{Shares}
 use Rattle.exercise.specs.Places.{places, amount}
 use Rattle.exercise.specs.Assignment.{wholePart, remainder, rank, assigned}
-use Rattle.exercise.proofs.Assigning.{none-assigned}
 use Rattle.exercise.proofs.Leftovers as law
 use Rattle.exercise.proofs.writer.by_largest_remainders.Statement.{statement}
 use Rattle.exercise.proofs.writer.by_largest_remainders.Tie as tie
@@ -31,12 +29,6 @@ Inv-loop exercised out₀ rest₀ left counter₀ out rest counter = (counter �
 abbrev μ-loop : tie.MeasureT-loop
 μ-loop exercised out₀ rest₀ left counter₀ out rest counter = left - counter
 
-returns : tie.Need-returns Inv-loop2 μ-loop2 Inv-loop μ-loop
-returns c =
-    let w = amount (c .before .args .shorts) in
-    is-table places (assigned places (c .before .args .exercised) w) _ 0 refl
-    (λ k l. getD-replicate places k 0 0 l ∙ sym (ap (λ (e : ℕ). assigned places e w k) (c .if1 .taken) ∙ none-assigned places w k))
-
 total-requires : tie.Need-total-requires Inv-loop2 μ-loop2 Inv-loop μ-loop
 total-requires c κs = search needs
 
@@ -49,10 +41,10 @@ total-requires-2 c κs = search needs
 -- what is known once the shares are worked out
 module _ (c : tie.After-total2 Inv-loop2 μ-loop2 Inv-loop μ-loop) where
   abbrev e : ℕ
-  e = c .before .before .before .before .before .before .args .exercised
+  e = c .before .before .before .before .before .args .exercised
 
   abbrev w : ℕ → ℕ
-  w = amount (c .before .before .before .before .before .before .args .shorts)
+  w = amount (c .before .before .before .before .before .args .shorts)
 
   abbrev whole : List ℕ
   whole = c .before .before .before .shares .result .whole
@@ -61,10 +53,10 @@ module _ (c : tie.After-total2 Inv-loop2 μ-loop2 Inv-loop μ-loop) where
   rest = c .before .before .before .shares .result .remainder
 
   some : 0 < e
-  some = omega arith
+  some = c .before .before .before .before .before .pre .0
 
   enough : e ≤ sumℕ places w
-  enough = c .before .before .before .before .before .before .pre .0
+  enough = c .before .before .before .before .before .pre .1
 
   whole-is : whole ≡ table places (wholePart e (sumℕ places w) w)
   whole-is = ap (λ (s : Shares). s .whole) (c .before .before .before .shares .ensures) ∙ ap (λ (o : ℕ). table places (wholePart e o w)) (c .before .before .before .before .total .ensures)
@@ -95,17 +87,17 @@ loop-holds c = (omega arith, start c)
 loop2-holds : tie.Need-loop2-holds Inv-loop2 μ-loop2 Inv-loop μ-loop
 loop2-holds c = (omega arith, law.largest-start _)
 
-mul-if2 : tie.Need-mul-if2 Inv-loop2 μ-loop2 Inv-loop μ-loop
-mul-if2 c = omega (arith, c .before .loop2 .inv .1 .below)
+mul-if1 : tie.Need-mul-if1 Inv-loop2 μ-loop2 Inv-loop μ-loop
+mul-if1 c = omega (arith, c .before .loop2 .inv .1 .below)
 
-array-read-if2 : tie.Need-array-read-if2 Inv-loop2 μ-loop2 Inv-loop μ-loop
-array-read-if2 c = omega (arith, c .before .loop2 .inv .1 .below)
+array-read-if1 : tie.Need-array-read-if1 Inv-loop2 μ-loop2 Inv-loop μ-loop
+array-read-if1 c = omega (arith, c .before .loop2 .inv .1 .below)
 
-mul-if2-2 : tie.Need-mul-if2-2 Inv-loop2 μ-loop2 Inv-loop μ-loop
-mul-if2-2 c = search needs
+mul-if1-2 : tie.Need-mul-if1-2 Inv-loop2 μ-loop2 Inv-loop μ-loop
+mul-if1-2 c = search needs
 
-array-read-if2-2 : tie.Need-array-read-if2-2 Inv-loop2 μ-loop2 Inv-loop μ-loop
-array-read-if2-2 c = search needs
+array-read-if1-2 : tie.Need-array-read-if1-2 Inv-loop2 μ-loop2 Inv-loop μ-loop
+array-read-if1-2 c = search needs
 
 add-place : tie.Need-add-place Inv-loop2 μ-loop2 Inv-loop μ-loop
 add-place c = search needs
@@ -117,12 +109,12 @@ loop2-again : tie.Need-loop2-again Inv-loop2 μ-loop2 Inv-loop μ-loop
 loop2-again c =
     let r = amount (c .before .before .before .before .loop .rest) in
     let l = c .before .before .loop2 in
-    let to : (m : ℕ) → c .if2 .largest ≡ m → law.Largest (l .place + 1) r m → law.Largest (l .place + 1) r (c .if2 .largest) = λ m e. subst (law.Largest (l .place + 1) r) (sym e) in (
+    let to : (m : ℕ) → c .if1 .largest ≡ m → law.Largest (l .place + 1) r m → law.Largest (l .place + 1) r (c .if1 .largest) = λ m e. subst (law.Largest (l .place + 1) r) (sym e) in (
       omega arith,
       ⊎-elim
           (λ x. to (l .place) (x .1) (law.largest-new (l .place) r (l .largest) (l .inv .1) (x .0 .taken)))
           (λ x. to (l .largest) (x .1) (law.largest-kept (l .place) r (l .largest) (l .inv .1) (x .0 .left)))
-          (c .if2 .came),
+          (c .if1 .came),
     )
 
 -- the place found is the next to be served
@@ -159,7 +151,7 @@ add-out c =
       sumℕ-term places (amount (whole b)) m (found c .below),
       in-all b,
       b .total2 .ensures,
-      b .before .before .before .before .before .before .pre,
+      b .before .before .before .before .before .pre,
     )
 
 array-write-out : tie.Need-array-write-out Inv-loop2 μ-loop2 Inv-loop μ-loop
@@ -172,7 +164,7 @@ array-write-rest : tie.Need-array-write-rest Inv-loop2 μ-loop2 Inv-loop μ-loop
 array-write-rest c = found c .below
 
 add-counter : tie.Need-add-counter Inv-loop2 μ-loop2 Inv-loop μ-loop
-add-counter c = omega (arith, ready c .before .before .before .before .before .before .pre)
+add-counter c = omega (arith, ready c .before .before .before .before .before .pre)
 
 loop-less : tie.Need-loop-less Inv-loop2 μ-loop2 Inv-loop μ-loop
 loop-less c = omega arith
@@ -183,8 +175,8 @@ loop-again c =
     let b = ready c in
     (omega arith, law.served-more places (amount (rest b)) (amount (whole b)) (l .out) (l .rest) (l .counter) (c .before .loop2 .largest) (l .inv .1) (found c .below) (next c))
 
-returns-2 : tie.Need-returns-2 Inv-loop2 μ-loop2 Inv-loop μ-loop
-returns-2 c =
+returns : tie.Need-returns Inv-loop2 μ-loop2 Inv-loop μ-loop
+returns c =
     let b = c .before .before in
     let l = c .before .loop in
     let end : l .counter ≡ e b - b .total2 .result = omega arith in
@@ -198,17 +190,16 @@ by-largest-remainders-spec =
     μ-loop2
     Inv-loop
     μ-loop
-    returns
     total-requires
     shares-requires
     total-requires-2
     sub-left
     loop-holds
     loop2-holds
-    mul-if2
-    array-read-if2
-    mul-if2-2
-    array-read-if2-2
+    mul-if1
+    array-read-if1
+    mul-if1-2
+    array-read-if1-2
     add-place
     loop2-less
     loop2-again
@@ -221,4 +212,4 @@ by-largest-remainders-spec =
     add-counter
     loop-less
     loop-again
-    returns-2)
+    returns)
