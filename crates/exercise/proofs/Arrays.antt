@@ -1,8 +1,8 @@
--- The arrays that `evening` works out one from another, and that the last is the outcome.
+-- The arrays that `assign` and `evening` work out one from another, and that the last is the outcome.
 -- Assumes nothing.
 use mathlib.Core.Bool.{Bool}
 use mathlib.Core.List.{List}
-use mathlib.Core.Path.{_≡_, refl, sym, ap, ap₂, subst, _∙_}
+use mathlib.Core.Path.{_≡_, refl, sym, ap, ap₂, _∙_}
 use Prim.Native.Nat.{ℕ, _≤_, _<_, _^_}
 use native.Mathlib.Nat.{le-trans}
 use native.Mathlib.Decide.{decLt}
@@ -17,7 +17,7 @@ use Rattle.integer.specs.Table.{table, length-table, getD-table, is-table, tabl
 use Rattle.exercise.specs.declared.types.Fixing.{Fixing}
 use Rattle.exercise.specs.declared.types.Outcome.{Outcome}
 use Rattle.exercise.specs.Places.{places, limit, amount, flag, AtMost}
-use Rattle.exercise.specs.Exercise.{held, short, exercised}
+use Rattle.exercise.specs.Exercise.{held, short}
 use Rattle.exercise.specs.Assignment.{assigned}
 use Rattle.exercise.specs.Evening.{shrunk, futures, settled, exercisedAt, exercisedInAll, assignedAt, remaining, arisen, outcome}
 use Rattle.exercise.proofs.Assigning.{assigned-ext, assigned-no-more}
@@ -34,6 +34,32 @@ at-most-table {B} {n} f l e h = record { each = λ k. by k (decLt k n) }
     by k (yes lt) = rw (amount-table n f l e k lt) (h k lt)
     by k (no ge) = rw (List·getD-eq-default l 0 {n = k} (omega (arith, ap length e ∙ length-table n f))) (omega arith)
 
+-- a bounded position is short, and holds, no more than its bound
+short-few : {B : ℕ} (positions : List ℤ) → Bounded B positions → (k : ℕ) → short (at positions k) ≤ B
+short-few positions h k = omega (arith, h .each k .abs, abs-parts (at positions k))
+
+held-few : {B : ℕ} (positions : List ℤ) → Bounded B positions → (k : ℕ) → held (at positions k) ≤ B
+held-few positions h k = omega (arith, h .each k .abs, abs-parts (at positions k))
+
+-- ---- assign
+
+module _ (positions : List ℤ) (shorts : List ℕ) (shorts-is : shorts ≡ table places (λ k. short (at positions k))) where
+  shorts-at : (k : ℕ) → k < places → amount shorts k ≡ short (at positions k)
+  shorts-at = amount-table places (λ k. short (at positions k)) shorts shorts-is
+
+  pub shorts-in-all : sumℕ places (amount shorts) ≡ sumℕ places (λ k. short (at positions k))
+  shorts-in-all = sumℕ-ext places (amount shorts) (λ k. short (at positions k)) shorts-at
+
+  pub shorts-fit : Bounded limit positions → sumℕ places (amount shorts) < 2 ^ 32
+  shorts-fit h = omega (arith, shorts-in-all, sumℕ-bound places limit (λ k. short (at positions k)) (λ k lt. short-few positions h k))
+
+  pub shorts-assigned : (e : ℕ) → table places (assigned places e (amount shorts)) ≡ table places (assigned places e (λ k. short (at positions k)))
+  shorts-assigned e =
+      table-ext places (assigned places e (amount shorts)) (assigned places e (λ k. short (at positions k)))
+      (assigned-ext places e (amount shorts) (λ k. short (at positions k)) shorts-at)
+
+-- ---- evening
+
 module _ (fixing : Fixing) (positions : List ℤ) (requests : List ℕ) (declined : List Bool) (bounded : Bounded limit positions)
     (xs : List ℕ) (e : ℕ) (xs-is : xs ≡ table places (exercisedAt places fixing (at positions) (amount requests) (flag declined)))
     (e-is : e ≡ sumℕ places (amount xs)) where
@@ -49,7 +75,7 @@ module _ (fixing : Fixing) (positions : List ℤ) (requests : List ℕ) (decline
   pub exercised-few : AtMost limit xs
   exercised-few =
       at-most-table x xs xs-is
-      (λ k lt. omega (arith, exercised-no-more fixing (at positions k) (amount requests k) (flag declined k), bounded .each k .abs, abs-parts (at positions k)))
+      (λ k lt. le-trans (exercised-no-more fixing (at positions k) (amount requests k) (flag declined k)) (held-few positions bounded k))
 
   -- nothing is exercised
   pub nothing-done : length positions ≡ places → e ≡ 0
@@ -64,42 +90,26 @@ module _ (fixing : Fixing) (positions : List ℤ) (requests : List ℕ) (decline
             (λ k lt. getD-replicate places k (pos 0) (pos 0) lt ∙ sym (none-arise places fixing (at positions) (amount requests) (flag declined) none k lt)) i;
       }
 
-  module _ (level : sumTo places (at positions) ≡ pos 0) (shorts : List ℕ) (shorts-is : shorts ≡ table places (λ k. short (at positions k))) where
-    shorts-at : (k : ℕ) → k < places → amount shorts k ≡ short (at positions k)
-    shorts-at = amount-table places (λ k. short (at positions k)) shorts shorts-is
+  -- no more is exercised than is short
+  pub enough : sumTo places (at positions) ≡ pos 0 → e ≤ sumℕ places (λ k. short (at positions k))
+  enough level = omega (arith, in-all, exercised-covered places fixing (at positions) (amount requests) (flag declined) level)
 
-    shorts-in-all : sumℕ places (amount shorts) ≡ sumℕ places (λ k. short (at positions k))
-    shorts-in-all = sumℕ-ext places (amount shorts) (λ k. short (at positions k)) shorts-at
+  module _ (level : sumTo places (at positions) ≡ pos 0) (given : List ℕ) (given-is : given ≡ table places (assigned places e (λ k. short (at positions k)))) where
+    pub assigned-few : AtMost limit given
+    assigned-few =
+        at-most-table (assigned places e (λ k. short (at positions k))) given given-is
+        (λ k lt. le-trans (assigned-no-more places e (λ k. short (at positions k)) (enough level) k) (short-few positions bounded k))
 
-    -- what `assign` asks
-    pub enough : e ≤ sumℕ places (amount shorts)
-    enough = omega (arith, in-all, shorts-in-all, exercised-covered places fixing (at positions) (amount requests) (flag declined) level)
+    given-at : (k : ℕ) → k < places → amount given k ≡ assignedAt places fixing (at positions) (amount requests) (flag declined) k
+    given-at k lt =
+        amount-table places (assigned places e (λ k. short (at positions k))) given given-is k lt
+        ∙ ap (λ (m : ℕ). assigned places m (λ j. short (at positions j)) k) in-all
 
-    pub in-range : sumℕ places (amount shorts) < 2 ^ 32
-    in-range =
-        omega (
-          arith,
-          shorts-in-all,
-          sumℕ-bound places limit (λ k. short (at positions k)) (λ k lt. omega (arith, bounded .each k .abs, abs-parts (at positions k))),
-        )
-
-    module _ (given : List ℕ) (given-is : given ≡ table places (assigned places e (amount shorts))) where
-      pub assigned-few : AtMost limit given
-      assigned-few =
-          at-most-table (assigned places e (amount shorts)) given given-is
-          (λ k lt. omega (arith, assigned-no-more places e (amount shorts) enough k, shorts-at k lt, bounded .each k .abs, abs-parts (at positions k)))
-
-      given-at : (k : ℕ) → k < places → amount given k ≡ assignedAt places fixing (at positions) (amount requests) (flag declined) k
-      given-at k lt =
-          amount-table places (assigned places e (amount shorts)) given given-is k lt
-          ∙ assigned-ext places e (amount shorts) (λ j. short (at positions j)) shorts-at k lt
-          ∙ ap (λ (m : ℕ). assigned places m (λ j. short (at positions j)) k) in-all
-
-      pub all-done : settled (fixing .option) (at positions) (amount xs) (amount given) ≡ outcome fixing positions requests declined
-      unfolding outcome remaining arisen
-      all-done = λ i. record {
-        positions = table-ext places (λ k. shrunk (at positions k) (amount xs k) (amount given k)) (remaining places fixing (at positions) (amount requests) (flag declined))
-            (λ k lt. ap₂ (shrunk (at positions k)) (xs-at k lt) (given-at k lt)) i;
-        futures = table-ext places (λ k. futures (fixing .option) (amount xs k) (amount given k)) (arisen places fixing (at positions) (amount requests) (flag declined))
-            (λ k lt. ap₂ (futures (fixing .option)) (xs-at k lt) (given-at k lt)) i;
-      }
+    pub all-done : settled (fixing .option) (at positions) (amount xs) (amount given) ≡ outcome fixing positions requests declined
+    unfolding outcome remaining arisen
+    all-done = λ i. record {
+      positions = table-ext places (λ k. shrunk (at positions k) (amount xs k) (amount given k)) (remaining places fixing (at positions) (amount requests) (flag declined))
+          (λ k lt. ap₂ (shrunk (at positions k)) (xs-at k lt) (given-at k lt)) i;
+      futures = table-ext places (λ k. futures (fixing .option) (amount xs k) (amount given k)) (arisen places fixing (at positions) (amount requests) (flag declined))
+          (λ k lt. ap₂ (futures (fixing .option)) (xs-at k lt) (given-at k lt)) i;
+    }

@@ -13,7 +13,7 @@ use lib.Dec.{ltb}
 use Rattle.integer.specs.NatSum.{sumℕ, sumℕ-ext, sumℕ-add, sumℕ-none}
 use Rattle.integer.specs.Count.{bit, count, count-most, count-mono}
 use Rattle.exercise.specs.Assignment.{wholePart, remainder, leftOver, ahead, rank, getsOne, assigned}
-use Rattle.exercise.proofs.Ranks.{larger, rank-less, rank-count, rank-ext}
+use Rattle.exercise.proofs.Ranks.{larger, lower, rank-less, rank-count, rank-ext}
 
 -- the whole parts and the remainders add up
 parts : (n e o : ℕ) (w : ℕ → ℕ) → sumℕ n (wholePart e o w) * o + sumℕ n (remainder e o w) ≡ e * sumℕ n w
@@ -110,12 +110,25 @@ only-writers n e w h k z = omega (arith, assigned-no-more n e w h k)
 pub left-given : (n e : ℕ) (w : ℕ → ℕ) → 0 < e → e ≤ sumℕ n w → count n (getsOne n e w) ≡ leftOver n e w
 left-given = given
 
--- a place that gets one is never past one that does not: where k gets one, so does each place with a larger remainder,
--- and each lower place with an equal one
-pub never-past : (n e : ℕ) (w : ℕ → ℕ) (j k : ℕ) → j < n → ahead (remainder e (sumℕ n w) w) j k ≡ true → getsOne n e w k ≡ true → getsOne n e w j ≡ true
-never-past n e w j k b a g =
+-- and each of them is a writer
+pub left-to-writers : (n e : ℕ) (w : ℕ → ℕ) → e ≤ sumℕ n w → (k : ℕ) → getsOne n e w k ≡ true → 0 < w k
+unfolding assigned
+left-to-writers n e w h k g = omega (arith, assigned-no-more n e w h k, ap bit g)
+
+-- where a place gets one, so does every place ahead of it
+in-order : (n e : ℕ) (w : ℕ → ℕ) (j k : ℕ) → j < n → ahead (remainder e (sumℕ n w) w) j k ≡ true → getsOne n e w k ≡ true → getsOne n e w j ≡ true
+in-order n e w j k b a g =
     let r = remainder e (sumℕ n w) w in
     lt-ltb (rank n r j) (leftOver n e w) (omega (arith, rank-less n r j k b a, ltb-true (rank n r k) (leftOver n e w) g))
+
+-- none goes past a larger remainder, nor past an equal one at a lower place
+pub never-past : (n e : ℕ) (w : ℕ → ℕ) (j k : ℕ) → j < n → remainder e (sumℕ n w) w k < remainder e (sumℕ n w) w j
+    → getsOne n e w k ≡ true → getsOne n e w j ≡ true
+never-past n e w j k b h = in-order n e w j k b (larger (remainder e (sumℕ n w) w) j k h)
+
+pub ties-to-the-lower : (n e : ℕ) (w : ℕ → ℕ) (j k : ℕ) → j < n → remainder e (sumℕ n w) w j ≡ remainder e (sumℕ n w) w k → j < k
+    → getsOne n e w k ≡ true → getsOne n e w j ≡ true
+ties-to-the-lower n e w j k b q l = in-order n e w j k b (lower (remainder e (sumℕ n w) w) j k q l)
 
 -- what is assigned follows from what is exercised and from what each of the n places is short
 pub assigned-ext : (n e : ℕ) (w v : ℕ → ℕ) → ((k : ℕ) → k < n → w k ≡ v k) → (k : ℕ) → k < n → assigned n e w k ≡ assigned n e v k

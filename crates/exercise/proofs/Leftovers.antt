@@ -13,13 +13,13 @@ use borrow.Author.Count.{below-more}
 use lib.Dec.{ltb}
 use lib.ListN.{length, set, length-set}
 use lib.Seq.{getD-set-same, getD-set-other}
-use Rattle.integer.specs.NatSum.{sumℕ, sumℕ-ext, sumℕ-term}
+use Rattle.integer.specs.NatSum.{sumℕ, sumℕ-ext}
 use Rattle.integer.specs.Count.{bit, count, count-mono}
 use Rattle.integer.specs.Table.{table, length-table, getD-table, is-table}
 use Rattle.exercise.specs.Places.{amount}
-use Rattle.exercise.specs.Assignment.{wholePart, remainder, leftOver, ahead, rank, getsOne, assigned}
+use Rattle.exercise.specs.Assignment.{wholePart, remainder, leftOver, ahead, rank, assigned}
 use Rattle.exercise.proofs.Ranks.{is-false, is-true, larger, is-ahead, ahead-irrefl, ahead-trans, ahead-ext, rank-distinct, rank-count, rank-ext, test-past}
-use Rattle.exercise.proofs.Assigning.{whole-parts-most, left-few, left-places}
+use Rattle.exercise.proofs.Assigning.{whole-parts-most, left-few}
 
 -- ---- the search
 

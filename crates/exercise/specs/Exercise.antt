@@ -18,8 +18,8 @@ short p = part⁻ p
 
 -- a call with strike below the futures price or a put with strike above it
 unfoldable pub inTheMoney : OptionType → ℕ → ℕ → Bool
-inTheMoney Call strike future = ltb strike future
-inTheMoney Put strike future = ltb future strike
+inTheMoney Call strike price = ltb strike price
+inTheMoney Put strike price = ltb price strike
 
 -- half of h, a call rounded up and a put down
 unfoldable pub half : OptionType → ℕ → ℕ
@@ -30,8 +30,8 @@ half Put h = h / 2
 unfoldable pub automatic : Fixing → ℕ → ℕ
 automatic f h =
     choose (not (f .last)) 0
-    (choose (inTheMoney (f .option) (f .strike) (f .future)) h
-    (choose (eqb (f .strike) (f .future)) (half (f .option) h)
+    (choose (inTheMoney (f .option) (f .strike) (f .price)) h
+    (choose (eqb (f .strike) (f .price)) (half (f .option) h)
     0))
 
 -- what the holder of position p exercises, by its request and whether it declined

@@ -1,4 +1,5 @@
-use crate::types::{Fixing, PLACES};
+use crate::types::Fixing;
+use crate::types::PLACES;
 use terms::OptionType;
 ghost use mathlib.Core.Path.{_≡_};
 ghost use Prim.Native.Nat.{min, max};
@@ -9,7 +10,7 @@ ghost use Rattle.exercise.specs.Exercise as rule;
 ghost use Rattle.exercise.specs.Evening.{exercisedAt};
 
 // The contracts that a position holds, 0 where it is short.
-pub fn held(position: i32) -> u32
+fn held(position: i32) -> u32
     ensures { λ r. ⌜ r ≡ rule.held position ⌝ }
 {
     if position > 0 { position as u32 } else { 0 }
@@ -28,17 +29,17 @@ fn larger(a: u32, b: u32) -> u32
 }
 
 // A call with strike below the futures price, or a put with strike above it.
-pub fn in_the_money(option: OptionType, strike: u32, future: u32) -> bool
-    ensures { λ r. ⌜ r ≡ rule.inTheMoney option strike future ⌝ }
+fn in_the_money(option: OptionType, strike: u32, price: u32) -> bool
+    ensures { λ r. ⌜ r ≡ rule.inTheMoney option strike price ⌝ }
 {
     match option {
-        OptionType::Call => strike < future,
-        OptionType::Put => future < strike,
+        OptionType::Call => strike < price,
+        OptionType::Put => price < strike,
     }
 }
 
 // Half of h contracts, a call rounded up and a put down.
-pub fn half(option: OptionType, h: u32) -> u32
+fn half(option: OptionType, h: u32) -> u32
     ensures { λ r. ⌜ r ≡ rule.half option h ⌝ }
 {
     match option {
@@ -48,17 +49,17 @@ pub fn half(option: OptionType, h: u32) -> u32
 }
 
 // The automatic exercise of h contracts.
-pub fn automatic(fixing: Fixing, h: u32) -> u32
+fn automatic(fixing: Fixing, h: u32) -> u32
     ensures { λ r. ⌜ r ≡ rule.automatic fixing h ⌝ }
 {
     if !fixing.last {
         return 0;
     }
     let option = fixing.option;
-    if in_the_money(option, fixing.strike, fixing.future) {
+    if in_the_money(option, fixing.strike, fixing.price) {
         return h;
     }
-    if fixing.strike == fixing.future {
+    if fixing.strike == fixing.price {
         return half(option, h);
     }
     0
@@ -68,11 +69,9 @@ pub fn automatic(fixing: Fixing, h: u32) -> u32
 pub fn exercised(fixing: Fixing, position: i32, request: u32, declined: bool) -> u32
     ensures { λ r. ⌜ r ≡ rule.exercised fixing position request declined ⌝ }
 {
-    if declined {
-        return 0;
-    }
     let h = held(position);
-    smaller(h, larger(request, automatic(fixing, h)))
+    let wanted = smaller(h, larger(request, automatic(fixing, h)));
+    if declined { 0 } else { wanted }
 }
 
 // The same at each place of a series.

@@ -1,23 +1,24 @@
 // What an evening's exercise does to a series: who exercises, who is assigned, the positions that remain and the futures
 // that arise.
-pub mod types;
-pub mod sum;
 pub mod holder;
+mod sum;
+pub mod types;
 pub mod writer;
 
 use terms::OptionType;
-use types::{Fixing, Outcome, PLACES};
+use types::Fixing;
+use types::Outcome;
+use types::PLACES;
 ghost use mathlib.Core.Path.{_≡_};
 ghost use Prim.Native.Nat.{_≤_};
 ghost use lib.IntN.{pos};
 ghost use Rattle.integer.specs.Bounds.{Within, Bounded};
 ghost use Rattle.integer.specs.Sum.{sumTo, at};
-ghost use Rattle.integer.specs.Table.{table};
 ghost use Rattle.exercise.specs.Places.{places, limit, amount, AtMost};
 ghost use Rattle.exercise.specs.Evening as rule;
 
 // The position that remains once contracts of it were exercised or assigned.
-pub fn shrunk(position: i32, exercised: u32, assigned: u32) -> i32
+fn shrunk(position: i32, exercised: u32, assigned: u32) -> i32
     requires { ⌜ (Within limit position) × (exercised ≤ limit) × (assigned ≤ limit) ⌝ }
     ensures { λ r. ⌜ r ≡ rule.shrunk position exercised assigned ⌝ }
 {
@@ -25,7 +26,7 @@ pub fn shrunk(position: i32, exercised: u32, assigned: u32) -> i32
 }
 
 // The futures that arise from what a holder exercised and a writer was assigned.
-pub fn futures(option: OptionType, exercised: u32, assigned: u32) -> i32
+fn futures(option: OptionType, exercised: u32, assigned: u32) -> i32
     requires { ⌜ (exercised ≤ limit) × (assigned ≤ limit) ⌝ }
     ensures { λ r. ⌜ r ≡ rule.futures option exercised assigned ⌝ }
 {
@@ -77,7 +78,7 @@ pub fn evening(
             futures: [0i32; PLACES],
         };
     }
-    let assigned = writer::assign(in_all, writer::short_by_place(positions));
+    let assigned = writer::assign(in_all, positions);
     let option = fixing.option;
     settled(option, positions, exercised, assigned)
 }

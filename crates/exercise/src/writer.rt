@@ -1,23 +1,30 @@
-use crate::sum::{total, wide};
-use crate::types::{Shares, PLACES};
+use crate::sum::total;
+use crate::sum::wide;
+use crate::types::PLACES;
+use crate::types::Shares;
 ghost use mathlib.Core.Path.{_≡_};
 ghost use Prim.Native.Nat.{_≤_, _<_, _^_};
+ghost use Rattle.integer.specs.Bounds.{Bounded};
 ghost use Rattle.integer.specs.NatSum.{sumℕ};
 ghost use Rattle.integer.specs.Sum.{at};
 ghost use Rattle.integer.specs.Table.{table};
-ghost use Rattle.exercise.specs.Places.{places, amount};
+ghost use Rattle.exercise.specs.Places.{places, limit, amount};
 ghost use Rattle.exercise.specs.Exercise as rule;
 ghost use Rattle.exercise.specs.Assignment.{wholePart, remainder, assigned};
 
 // The contracts that a position is short, 0 where it holds.
-pub fn short(position: i32) -> u32
+fn short(position: i32) -> u32
     ensures { λ r. ⌜ r ≡ rule.short position ⌝ }
 {
-    if position < 0 { (-(position as i64)) as u32 } else { 0 }
+    if position < 0 {
+        (-(position as i64)) as u32
+    } else {
+        0
+    }
 }
 
 // The same at each place of a series.
-pub fn short_by_place(positions: [i32; PLACES]) -> [u32; PLACES]
+fn short_by_place(positions: [i32; PLACES]) -> [u32; PLACES]
     ensures { λ r. ⌜ r ≡ table places (λ k. rule.short (at positions k)) ⌝ }
 {
     let mut out = [0u32; PLACES];
@@ -49,15 +56,12 @@ fn shares(exercised: u64, interest: u64, shorts: [u32; PLACES]) -> Shares
     }
 }
 
-// What each writer is assigned of `exercised` contracts: its whole part, and one more for each largest remainder while
-// contracts are left over. A remainder that got one is out of the search.
-pub fn assign(exercised: u64, shorts: [u32; PLACES]) -> [u32; PLACES]
-    requires { ⌜ (exercised ≤ sumℕ places (amount shorts)) × (sumℕ places (amount shorts) < 2 ^ 32) ⌝ }
+// What each writer is assigned of `exercised` contracts: its whole part, and one more at the largest remainder for each
+// contract left over. A place that got one is out of the search.
+fn by_largest_remainders(exercised: u64, shorts: [u32; PLACES]) -> [u32; PLACES]
+    requires { ⌜ (0 < exercised) × (exercised ≤ sumℕ places (amount shorts)) × (sumℕ places (amount shorts) < 2 ^ 32) ⌝ }
     ensures { λ r. ⌜ r ≡ table places (assigned places exercised (amount shorts)) ⌝ }
 {
-    if exercised == 0 {
-        return [0u32; PLACES];
-    }
     let parts = shares(exercised, total(shorts), shorts);
     let mut out = parts.whole;
     let mut rest = parts.remainder;
@@ -73,4 +77,15 @@ pub fn assign(exercised: u64, shorts: [u32; PLACES]) -> [u32; PLACES]
         rest[largest] = 0;
     }
     out
+}
+
+// What each place is assigned of `exercised` contracts.
+pub fn assign(exercised: u64, positions: [i32; PLACES]) -> [u32; PLACES]
+    requires { ⌜ (Bounded limit positions) × (exercised ≤ sumℕ places (λ k. rule.short (at positions k))) ⌝ }
+    ensures { λ r. ⌜ r ≡ table places (assigned places exercised (λ k. rule.short (at positions k))) ⌝ }
+{
+    if exercised == 0 {
+        return [0u32; PLACES];
+    }
+    by_largest_remainders(exercised, short_by_place(positions))
 }

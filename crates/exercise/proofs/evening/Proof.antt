@@ -16,46 +16,41 @@ total-requires c κs = search needs
 returns : tie.Need-returns
 returns c =
     let s = c .before .before .before in
+    let x = c .before .before .exercised-by-place in
+    let e = c .before .total in
     let long : length (s .args .positions) ≡ places = search needs in
     law.nothing-done (s .args .fixing) (s .args .positions) (s .args .requests) (s .args .declined) (s .pre .0)
-    (c .before .before .exercised-by-place .result) (c .before .total .result) (c .before .before .exercised-by-place .ensures) (c .before .total .ensures)
-    long (c .if1 .taken)
-
-short-by-place-requires : tie.Need-short-by-place-requires
-short-by-place-requires c κs = search needs
+    (x .result) (e .result) (x .ensures) (e .ensures) long (c .if1 .taken)
 
 assign-requires : tie.Need-assign-requires
 assign-requires c κs =
-    let s = c .before .before .before .before in
-    let x = c .before .before .before .exercised-by-place in
-    let e = c .before .before .total in (
+    let s = c .before .before .before in
+    let x = c .before .before .exercised-by-place in
+    let e = c .before .total in (
+      s .pre .0,
       law.enough (s .args .fixing) (s .args .positions) (s .args .requests) (s .args .declined) (s .pre .0)
-          (x .result) (e .result) (x .ensures) (e .ensures) (s .pre .1) (c .short-by-place .result) (c .short-by-place .ensures),
-      law.in-range (s .args .fixing) (s .args .positions) (s .args .requests) (s .args .declined) (s .pre .0)
-          (x .result) (e .result) (x .ensures) (e .ensures) (s .pre .1) (c .short-by-place .result) (c .short-by-place .ensures),
+          (x .result) (e .result) (x .ensures) (e .ensures) (s .pre .1),
     )
 
 settled-requires : tie.Need-settled-requires
 settled-requires c κs =
-    let s = c .before .before .before .before .before in
-    let x = c .before .before .before .before .exercised-by-place in
-    let e = c .before .before .before .total in
-    let w = c .before .short-by-place in (
+    let s = c .before .before .before .before in
+    let x = c .before .before .before .exercised-by-place in
+    let e = c .before .before .total in (
       s .pre .0,
       law.exercised-few (s .args .fixing) (s .args .positions) (s .args .requests) (s .args .declined) (s .pre .0) (x .result) (e .result) (x .ensures) (e .ensures),
       law.assigned-few (s .args .fixing) (s .args .positions) (s .args .requests) (s .args .declined) (s .pre .0)
-          (x .result) (e .result) (x .ensures) (e .ensures) (s .pre .1) (w .result) (w .ensures) (c .assign .result) (c .assign .ensures),
+          (x .result) (e .result) (x .ensures) (e .ensures) (s .pre .1) (c .assign .result) (c .assign .ensures),
     )
 
 returns-2 : tie.Need-returns-2
 returns-2 c =
-    let s = c .before .before .before .before .before .before in
-    let x = c .before .before .before .before .before .exercised-by-place in
-    let e = c .before .before .before .before .total in
-    let w = c .before .before .short-by-place in
+    let s = c .before .before .before .before .before in
+    let x = c .before .before .before .before .exercised-by-place in
+    let e = c .before .before .before .total in
     c .settled .ensures
     ∙ law.all-done (s .args .fixing) (s .args .positions) (s .args .requests) (s .args .declined) (s .pre .0)
-    (x .result) (e .result) (x .ensures) (e .ensures) (s .pre .1) (w .result) (w .ensures) (c .before .assign .result) (c .before .assign .ensures)
+    (x .result) (e .result) (x .ensures) (e .ensures) (s .pre .1) (c .before .assign .result) (c .before .assign .ensures)
 
 pub evening-spec : {M : Type 1} → statement M
 evening-spec =
@@ -64,7 +59,6 @@ evening-spec =
     exercised-by-place-requires
     total-requires
     returns
-    short-by-place-requires
     assign-requires
     settled-requires
     returns-2)

@@ -1,5 +1,4 @@
 -- `futures` meets its contract. Assumes nothing.
-use mathlib.Core.Path.{_∙_}
 use lib.IntN.{pos, _-ℤ_}
 use mir.Syntax.{w32}
 use Rattle.integer.specs.Machine.{Reads, nat, minus, local, fits}
@@ -7,8 +6,6 @@ use Rattle.exercise.specs.Evening.{futures}
 use borrow.Author.Needs.{needs}
 use Rattle.exercise.proofs.futures.Statement.{statement}
 use Rattle.exercise.proofs.futures.Tie as tie
-use Rattle.exercise.proofs.futures.Reads as reads
-use Rattle.exercise.proofs.futures.Lts as lts
 
 module _ (c : tie.Start) where
   abbrev call : Reads 200000 (pos (c .args .exercised) -ℤ pos (c .args .assigned))
@@ -20,40 +17,31 @@ module _ (c : tie.Start) where
 enum-told : tie.Need-enum-told
 enum-told c = search needs
 
--- src/lib.rt:33:30
 cast-result : tie.Need-cast-result
 cast-result c = search needs
 
--- src/lib.rt:33:51
 cast-result-2 : tie.Need-cast-result-2
 cast-result-2 c = search needs
 
--- src/lib.rt:33:29
 sub-result : tie.Need-sub-result
 sub-result c = fits w32 (call (c .before .before)) tt
 
--- src/lib.rt:34:29
 enum-told-2 : tie.Need-enum-told-2
 enum-told-2 c = search needs
 
--- src/lib.rt:34:29
 cast-result-3 : tie.Need-cast-result-3
 cast-result-3 c = search needs
 
--- src/lib.rt:34:49
 cast-result-4 : tie.Need-cast-result-4
 cast-result-4 c = search needs
 
--- src/lib.rt:34:28
 sub-result-2 : tie.Need-sub-result-2
 sub-result-2 c = fits w32 (put (c .before .before)) tt
 
--- src/lib.rt:28:1
 returns : tie.Need-returns
 unfolding futures
 returns c = rw (c .enum-told .given .1) (local w32 (call (c .before .before)) tt .is)
 
--- src/lib.rt:28:1
 returns-2 : tie.Need-returns-2
 unfolding futures
 returns-2 c = rw (c .enum-told2 .given .1) (local w32 (put (c .before .before)) tt .is)

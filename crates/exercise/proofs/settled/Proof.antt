@@ -1,7 +1,7 @@
 -- `settled` meets its contract: the places passed have their numbers. Assumes nothing.
 use borrow.Author.Needs.{needs}
-use mathlib.Core.Path.{_≡_, refl, ap, _∙_}
-use Prim.Native.Nat.{ℕ, _≤_, _-_}
+use mathlib.Core.Path.{refl, ap, _∙_}
+use Prim.Native.Nat.{_≤_, _-_}
 use native.Mathlib.Omega.{arith}
 use lib.IntN.{ℤ, pos}
 use mir.Syntax.{w32}
@@ -14,10 +14,6 @@ use Rattle.exercise.specs.Places.{places, amount}
 use Rattle.exercise.specs.Evening.{shrunk, futures}
 use Rattle.exercise.proofs.settled.Statement.{statement}
 use Rattle.exercise.proofs.settled.Tie as tie
-use Rattle.exercise.proofs.settled.Reads as reads
-use Rattle.exercise.proofs.settled.Lts as lts
-use Rattle.exercise.proofs.futures.Reads as futures-reads
-use Rattle.exercise.proofs.shrunk.Reads as shrunk-reads
 
 abbrev Inv-loop : tie.InvT-loop
 Inv-loop option positions exercised assigned remaining₀ arisen₀ place₀ remaining arisen place =
@@ -28,88 +24,68 @@ Inv-loop option positions exercised assigned remaining₀ arisen₀ place₀ rem
 abbrev μ-loop : tie.MeasureT-loop
 μ-loop option positions exercised assigned remaining₀ arisen₀ place₀ remaining arisen place = places - place
 
--- src/lib.rt:51:5
 loop-holds : tie.Need-loop-holds Inv-loop μ-loop
 loop-holds c = (omega arith, filled-start _ (pos 0) _ refl, filled-start _ (pos 0) _ refl)
 
--- src/lib.rt:52:35
 mul-shrunk : tie.Need-mul-shrunk Inv-loop μ-loop
 mul-shrunk c = search needs
 
--- src/lib.rt:52:35
 array-copy-out-shrunk : tie.Need-array-copy-out-shrunk Inv-loop μ-loop
 array-copy-out-shrunk c = search needs
 
--- src/lib.rt:52:53
 mul-shrunk-2 : tie.Need-mul-shrunk-2 Inv-loop μ-loop
 mul-shrunk-2 c = search needs
 
--- src/lib.rt:52:53
 array-read-shrunk : tie.Need-array-read-shrunk Inv-loop μ-loop
 array-read-shrunk c = search needs
 
--- src/lib.rt:52:71
 mul-shrunk-3 : tie.Need-mul-shrunk-3 Inv-loop μ-loop
 mul-shrunk-3 c = search needs
 
--- src/lib.rt:52:71
 array-read-shrunk-2 : tie.Need-array-read-shrunk-2 Inv-loop μ-loop
 array-read-shrunk-2 c = search needs
 
--- src/lib.rt:52:28
 shrunk-requires : tie.Need-shrunk-requires Inv-loop μ-loop
 shrunk-requires c κs =
     let l = c .before .before in
     let k = l .loop .place in
     (passed w32 (l .before .pre .0 .each k) tt, l .before .pre .1 .each k, l .before .pre .2 .each k)
 
--- src/lib.rt:52:9
 mul-remaining : tie.Need-mul-remaining Inv-loop μ-loop
 mul-remaining c = search needs
 
--- src/lib.rt:52:9
 array-set-from-remaining : tie.Need-array-set-from-remaining Inv-loop μ-loop
 array-set-from-remaining c = search needs
 
--- src/lib.rt:53:41
 mul-futures : tie.Need-mul-futures Inv-loop μ-loop
 mul-futures c = search needs
 
--- src/lib.rt:53:41
 array-read-futures : tie.Need-array-read-futures Inv-loop μ-loop
 array-read-futures c = search needs
 
--- src/lib.rt:53:59
 mul-futures-2 : tie.Need-mul-futures-2 Inv-loop μ-loop
 mul-futures-2 c = search needs
 
--- src/lib.rt:53:59
 array-read-futures-2 : tie.Need-array-read-futures-2 Inv-loop μ-loop
 array-read-futures-2 c = search needs
 
--- src/lib.rt:53:25
 futures-requires : tie.Need-futures-requires Inv-loop μ-loop
 futures-requires c κs =
     let l = c .before .before .before in
     (l .before .pre .1 .each (l .loop .place), l .before .pre .2 .each (l .loop .place))
 
--- src/lib.rt:53:9
 mul-arisen : tie.Need-mul-arisen Inv-loop μ-loop
 mul-arisen c = search needs
 
--- src/lib.rt:53:9
 array-set-from-arisen : tie.Need-array-set-from-arisen Inv-loop μ-loop
 array-set-from-arisen c = search needs
 
--- src/lib.rt:54:9
 add-place : tie.Need-add-place Inv-loop μ-loop
 add-place c = search needs
 
--- src/lib.rt:51:5
 loop-less : tie.Need-loop-less Inv-loop μ-loop
 loop-less c = omega arith
 
--- src/lib.rt:51:5
 loop-again : tie.Need-loop-again Inv-loop μ-loop
 loop-again c =
     let l = c .before .before .before .before in
@@ -123,7 +99,6 @@ loop-again c =
       filled-next (l .loop .inv .2) (omega arith) _ (toZ-ofZ g ∙ c .futures .ensures),
     )
 
--- src/lib.rt:39:1
 returns : tie.Need-returns Inv-loop μ-loop
 returns c = λ i. record { positions = filled-all (c .before .loop .inv .1) (omega arith) i; futures = filled-all (c .before .loop .inv .2) (omega arith) i }
 

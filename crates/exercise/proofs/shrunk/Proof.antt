@@ -6,8 +6,6 @@ use Rattle.exercise.specs.Evening.{shrunk}
 use borrow.Author.Needs.{needs}
 use Rattle.exercise.proofs.shrunk.Statement.{statement}
 use Rattle.exercise.proofs.shrunk.Tie as tie
-use Rattle.exercise.proofs.shrunk.Reads as reads
-use Rattle.exercise.proofs.shrunk.Lts as lts
 
 module _ (c : tie.Start) where
   abbrev less : Reads 200000 (c .args .position -ℤ pos (c .args .exercised))
@@ -19,19 +17,15 @@ module _ (c : tie.Start) where
 cast-result : tie.Need-cast-result
 cast-result c = search needs
 
--- src/lib.rt:24:5
 sub-result : tie.Need-sub-result
 sub-result c = fits w32 (less c) tt
 
--- src/lib.rt:24:38
 cast-result-2 : tie.Need-cast-result-2
 cast-result-2 c = search needs
 
--- src/lib.rt:24:5
 add-result : tie.Need-add-result
 add-result c = fits w32 (left c) tt
 
--- src/lib.rt:20:1
 returns : tie.Need-returns
 unfolding shrunk
 returns c = local w32 (left c) tt .is

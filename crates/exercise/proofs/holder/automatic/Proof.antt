@@ -5,36 +5,26 @@ use Rattle.exercise.specs.Exercise.{automatic}
 use borrow.Author.Needs.{needs}
 use Rattle.exercise.proofs.holder.automatic.Statement.{statement}
 use Rattle.exercise.proofs.holder.automatic.Tie as tie
-use Rattle.exercise.proofs.holder.automatic.Reads as reads
-use Rattle.exercise.proofs.holder.automatic.Lts as lts
-use Rattle.exercise.proofs.holder.half.Reads as half-reads
-use Rattle.exercise.proofs.holder.in_the_money.Reads as in-the-money-reads
 
--- src/holder.rt:55:9
 returns : tie.Need-returns
 unfolding automatic
 returns c = hit _ (c .if1 .taken) refl
 
--- src/holder.rt:58:8
 in-the-money-requires : tie.Need-in-the-money-requires
 in-the-money-requires c κs = search needs
 
--- src/holder.rt:59:9
 returns-2 : tie.Need-returns-2
 unfolding automatic
 returns-2 c = past _ (c .before .before .if1 .left) (hit _ (sym (c .before .in-the-money .ensures) ∙ c .if2 .taken) refl)
 
--- src/holder.rt:62:9
 half-requires : tie.Need-half-requires
 half-requires c κs = search needs
 
--- src/holder.rt:62:9
 returns-3 : tie.Need-returns-3
 unfolding automatic
 returns-3 c =
     past _ (c .before .before .before .before .before .if1 .left) (past _ (sym (c .before .before .before .before .in-the-money .ensures) ∙ c .before .before .before .if2 .left) (hit _ (eq-eqb _ _ (c .before .if3 .taken)) (c .half .ensures)))
 
--- src/holder.rt:51:1
 returns-4 : tie.Need-returns-4
 unfolding automatic
 returns-4 c =

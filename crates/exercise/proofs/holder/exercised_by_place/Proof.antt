@@ -1,7 +1,7 @@
 -- `exercised_by_place` meets its contract: the places passed have their numbers. Assumes nothing.
 use borrow.Author.Needs.{needs}
-use mathlib.Core.Path.{_≡_, refl, ap, _∙_}
-use Prim.Native.Nat.{ℕ, _≤_, _-_}
+use mathlib.Core.Path.{refl, ap, _∙_}
+use Prim.Native.Nat.{_≤_, _-_}
 use native.Mathlib.Omega.{arith}
 use lib.IntN.{ℤ}
 use mir.Syntax.{w32}
@@ -14,9 +14,6 @@ use Rattle.exercise.specs.Exercise.{exercised}
 use Rattle.exercise.specs.Evening.{exercisedAt}
 use Rattle.exercise.proofs.holder.exercised_by_place.Statement.{statement}
 use Rattle.exercise.proofs.holder.exercised_by_place.Tie as tie
-use Rattle.exercise.proofs.holder.exercised_by_place.Reads as reads
-use Rattle.exercise.proofs.holder.exercised_by_place.Lts as lts
-use Rattle.exercise.proofs.holder.exercised.Reads as exercised-reads
 
 abbrev Inv-loop : tie.InvT-loop
 Inv-loop fixing positions requests declined out₀ place₀ out place =
@@ -25,51 +22,39 @@ Inv-loop fixing positions requests declined out₀ place₀ out place =
 abbrev μ-loop : tie.MeasureT-loop
 μ-loop fixing positions requests declined out₀ place₀ out place = places - place
 
--- src/holder.rt:89:5
 loop-holds : tie.Need-loop-holds Inv-loop μ-loop
 loop-holds c = (omega arith, filled-start _ 0 _ refl)
 
--- src/holder.rt:90:40
 mul-exercised : tie.Need-mul-exercised Inv-loop μ-loop
 mul-exercised c = search needs
 
--- src/holder.rt:90:40
 array-copy-out-exercised : tie.Need-array-copy-out-exercised Inv-loop μ-loop
 array-copy-out-exercised c = search needs
 
--- src/holder.rt:90:58
 mul-exercised-2 : tie.Need-mul-exercised-2 Inv-loop μ-loop
 mul-exercised-2 c = search needs
 
--- src/holder.rt:90:58
 array-read-exercised : tie.Need-array-read-exercised Inv-loop μ-loop
 array-read-exercised c = search needs
 
--- src/holder.rt:90:75
 array-read-exercised-2 : tie.Need-array-read-exercised-2 Inv-loop μ-loop
 array-read-exercised-2 c = search needs
 
--- src/holder.rt:90:22
 exercised-requires : tie.Need-exercised-requires Inv-loop μ-loop
 exercised-requires c κs = search needs
 
--- src/holder.rt:90:9
 mul-out : tie.Need-mul-out Inv-loop μ-loop
 mul-out c = search needs
 
--- src/holder.rt:90:9
 array-write-out : tie.Need-array-write-out Inv-loop μ-loop
 array-write-out c = search needs
 
--- src/holder.rt:91:9
 add-place : tie.Need-add-place Inv-loop μ-loop
 add-place c = search needs
 
--- src/holder.rt:89:5
 loop-less : tie.Need-loop-less Inv-loop μ-loop
 loop-less c = omega arith
 
--- src/holder.rt:89:5
 loop-again : tie.Need-loop-again Inv-loop μ-loop
 loop-again c =
     let l = c .before .before .before in
@@ -78,7 +63,6 @@ loop-again c =
     let here = c .exercised .ensures ∙ ap (λ (p : ℤ). exercised (a .fixing) p (amount (a .t3) (l .loop .place)) (flag (a .t4) (l .loop .place))) (toZ-ofZ f) in
     (omega arith, filled-next (l .loop .inv .1) (omega arith) _ here)
 
--- src/holder.rt:79:1
 returns : tie.Need-returns Inv-loop μ-loop
 returns c = filled-all (c .before .loop .inv .1) (omega arith)
 

@@ -3,27 +3,20 @@ use Rattle.exercise.specs.Exercise.{half}
 use borrow.Author.Needs.{needs}
 use Rattle.exercise.proofs.holder.half.Statement.{statement}
 use Rattle.exercise.proofs.holder.half.Tie as tie
-use Rattle.exercise.proofs.holder.half.Reads as reads
-use Rattle.exercise.proofs.holder.half.Lts as lts
 
--- src/holder.rt:45:33
 enum-told : tie.Need-enum-told
 enum-told c = search needs
 
--- src/holder.rt:45:29
 sub-result : tie.Need-sub-result
 sub-result c = search needs
 
--- src/holder.rt:46:28
 enum-told-2 : tie.Need-enum-told-2
 enum-told-2 c = search needs
 
--- src/holder.rt:41:1
 returns : tie.Need-returns
 unfolding half
 returns c = rw (c .enum-told .given .1) (omega arith)
 
--- src/holder.rt:41:1
 returns-2 : tie.Need-returns-2
 unfolding half
 returns-2 c = rw (c .enum-told2 .given .1)

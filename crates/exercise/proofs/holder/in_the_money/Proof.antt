@@ -2,23 +2,17 @@ use Rattle.exercise.specs.Exercise.{inTheMoney}
 use borrow.Author.Needs.{needs}
 use Rattle.exercise.proofs.holder.in_the_money.Statement.{statement}
 use Rattle.exercise.proofs.holder.in_the_money.Tie as tie
-use Rattle.exercise.proofs.holder.in_the_money.Reads as reads
-use Rattle.exercise.proofs.holder.in_the_money.Lts as lts
 
--- src/holder.rt:35:29
 enum-told : tie.Need-enum-told
 enum-told c = search needs
 
--- src/holder.rt:36:28
 enum-told-2 : tie.Need-enum-told-2
 enum-told-2 c = search needs
 
--- src/holder.rt:31:1
 returns : tie.Need-returns
 unfolding inTheMoney
 returns c = rw (c .enum-told .given .1)
 
--- src/holder.rt:31:1
 returns-2 : tie.Need-returns-2
 unfolding inTheMoney
 returns-2 c = rw (c .enum-told2 .given .1)

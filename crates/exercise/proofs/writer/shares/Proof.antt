@@ -1,7 +1,7 @@
 -- `shares` meets its contract: the places passed have their parts. Assumes nothing.
 use borrow.Author.Needs.{needs}
-use mathlib.Core.Path.{_≡_, refl, ap, _∙_}
-use Prim.Native.Nat.{ℕ, _≤_, _<_, _-_, _*_, _/_, _%_}
+use mathlib.Core.Path.{refl, ap}
+use Prim.Native.Nat.{ℕ, _≤_, _-_, _*_, _/_, _%_}
 use native.Mathlib.Nat.{mul-le-mul, mul-le-mul-right, mod-lt, div-le-of-le-mul}
 use native.Mathlib.Omega.{arith}
 use Rattle.integer.specs.Table.{Filled, filled-start, filled-next, filled-all}
@@ -9,9 +9,6 @@ use Rattle.exercise.specs.Places.{places, amount}
 use Rattle.exercise.specs.Assignment.{wholePart, remainder}
 use Rattle.exercise.proofs.writer.shares.Statement.{statement}
 use Rattle.exercise.proofs.writer.shares.Tie as tie
-use Rattle.exercise.proofs.writer.shares.Reads as reads
-use Rattle.exercise.proofs.writer.shares.Lts as lts
-use Rattle.exercise.proofs.sum.wide.Reads as wide-reads
 
 abbrev Inv-loop : tie.InvT-loop
 Inv-loop exercised interest shorts whole₀ rest₀ place₀ whole rest place =
@@ -22,23 +19,18 @@ Inv-loop exercised interest shorts whole₀ rest₀ place₀ whole rest place =
 abbrev μ-loop : tie.MeasureT-loop
 μ-loop exercised interest shorts whole₀ rest₀ place₀ whole rest place = places - place
 
--- src/writer.rt:41:5
 loop-holds : tie.Need-loop-holds Inv-loop μ-loop
 loop-holds c = (omega arith, filled-start _ 0 _ refl, filled-start _ 0 _ refl)
 
--- src/writer.rt:42:40
 mul-wide : tie.Need-mul-wide Inv-loop μ-loop
 mul-wide c = search needs
 
--- src/writer.rt:42:40
 array-read-wide : tie.Need-array-read-wide Inv-loop μ-loop
 array-read-wide c = search needs
 
--- src/writer.rt:42:35
 wide-requires : tie.Need-wide-requires Inv-loop μ-loop
 wide-requires c κs = search needs
 
--- src/writer.rt:42:23
 few : (c : tie.After-wide Inv-loop μ-loop) → c .before .before .before .args .exercised ≤ 4294967295
 few c = omega arith
 
@@ -49,47 +41,36 @@ whole-few c = div-le-of-le-mul (c .before .before .before .args .interest) (mul-
 mul-product : tie.Need-mul-product Inv-loop μ-loop
 mul-product c = record { fits = omega (arith, mul-le-mul (few c) (c .wide .ensures .1)) }
 
--- src/writer.rt:43:25
 div-whole : tie.Need-div-whole Inv-loop μ-loop
 div-whole c = search needs
 
--- src/writer.rt:43:24
 cast-whole : tie.Need-cast-whole Inv-loop μ-loop
 cast-whole c = record { fits = omega (arith, whole-few c, c .wide .ensures .1) }
 
--- src/writer.rt:43:9
 mul-whole : tie.Need-mul-whole Inv-loop μ-loop
 mul-whole c = search needs
 
--- src/writer.rt:43:9
 array-write-whole : tie.Need-array-write-whole Inv-loop μ-loop
 array-write-whole c = search needs
 
--- src/writer.rt:44:24
 rem-rest : tie.Need-rem-rest Inv-loop μ-loop
 rem-rest c = search needs
 
--- src/writer.rt:44:23
 cast-rest : tie.Need-cast-rest Inv-loop μ-loop
 cast-rest c = record { fits = omega (arith, mod-lt (c .before .before .before .args .exercised * c .wide .result) (c .before .before .before .pre .0)) }
 
--- src/writer.rt:44:9
 mul-rest : tie.Need-mul-rest Inv-loop μ-loop
 mul-rest c = search needs
 
--- src/writer.rt:44:9
 array-write-rest : tie.Need-array-write-rest Inv-loop μ-loop
 array-write-rest c = search needs
 
--- src/writer.rt:45:9
 add-place : tie.Need-add-place Inv-loop μ-loop
 add-place c = search needs
 
--- src/writer.rt:41:5
 loop-less : tie.Need-loop-less Inv-loop μ-loop
 loop-less c = omega arith
 
--- src/writer.rt:41:5
 loop-again : tie.Need-loop-again Inv-loop μ-loop
 loop-again c =
     let l = c .before .before in
@@ -100,7 +81,6 @@ loop-again c =
       filled-next (l .loop .inv .2) (omega arith) _ (ap (λ (x : ℕ). a .exercised * x % a .interest) w),
     )
 
--- src/writer.rt:33:1
 returns : tie.Need-returns Inv-loop μ-loop
 returns c =
     λ i. record { whole = filled-all (c .before .loop .inv .1) (omega arith) i; remainder = filled-all (c .before .loop .inv .2) (omega arith) i }
