@@ -87,7 +87,7 @@ onLastDay r i = eqb (r .day) (r .listing i .last)
 
 abbrev pub fixing : Reckoning → ℕ → Fixing
 fixing r i =
-    record { option = r .listing i .option; last = onLastDay r i; strike = r .listing i .strike; future = r .mark i .future }
+    record { option = r .listing i .option; last = onLastDay r i; strike = r .listing i .strike; price = r .mark i .future }
 
 -- "N is what remains, 0 on the last day."
 unfoldable pub closingPosition : Reckoning → ℕ → ℕ → ℤ

@@ -10,7 +10,7 @@ ghost use Rattle.exercise.specs.Exercise as rule;
 ghost use Rattle.exercise.specs.Evening.{exercisedAt};
 
 // The contracts that a position holds, 0 where it is short.
-fn held(position: i32) -> u32
+pub fn held(position: i32) -> u32
     ensures { λ r. ⌜ r ≡ rule.held position ⌝ }
 {
     if position > 0 { position as u32 } else { 0 }

@@ -5,7 +5,7 @@ use Prim.Native.Nat.{ℕ, zero, suc, _+_, _<_, _≤_}
 use native.Mathlib.Nat.{le-of-suc-le-suc, not-suc-le-zero, zero-lt-suc}
 use native.Mathlib.Decide.{ℕ-discrete}
 use native.Mathlib.Omega.{arith}
-use lib.ListN.{length, getD, set, length-set}
+use lib.ListN.{length, getD, set, replicate, length-set, length-replicate, getD-replicate}
 use lib.Seq.{ext-getD, getD-set-same, getD-set-other}
 
 module _ {A : Type 0} where
@@ -33,6 +33,10 @@ module _ {A : Type 0} where
   pub table-ext : (n : ℕ) (f g : ℕ → A) → ((k : ℕ) → k < n → f k ≡ g k) → table n f ≡ table n g
   table-ext n f g h = is-table n g (table n f) (g 0) (length-table n f) (λ k lt. getD-table n f k (g 0) lt ∙ h k lt)
 
+  -- a table of one value
+  pub replicate-table : (n : ℕ) (x : A) → replicate n x ≡ table n (λ k. x)
+  replicate-table n x = is-table n (λ k. x) (replicate n x) x (length-replicate n x) (λ k lt. getD-replicate n k x x lt)
+
   -- every list is the table of its elements
   pub table-getD : (l : List A) (d : A) → table (length l) (λ k. getD l k d) ≡ l
   table-getD l d = sym (is-table (length l) (λ k. getD l k d) l d refl (λ k h. refl))
@@ -55,6 +59,9 @@ module _ {A : Type 0} where
       by : (k : ℕ) → k < i + 1 → Dec (k ≡ i) → getD (set l i v) k d ≡ f k
       by k below (yes q) = rw (q, getD-set-same l i v d (omega (arith, h .len))) e
       by k below (no q) = getD-set-other l i k v d q ∙ h .done k (omega arith)
+
+  pub filled-ext : {n i : ℕ} {l : List A} {d : A} {f g : ℕ → A} → ((k : ℕ) → f k ≡ g k) → Filled n i l d f → Filled n i l d g
+  filled-ext e h = record { len = h .len; done = λ k lt. h .done k lt ∙ e k }
 
   pub filled-all : {n i : ℕ} {l : List A} {d : A} {f : ℕ → A} → Filled n i l d f → n ≤ i → l ≡ table n f
   filled-all {n} {i} {l} {d} {f} h le = is-table n f l d (h .len) (λ k lt. h .done k (omega arith))

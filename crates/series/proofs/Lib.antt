@@ -1,1 +1,3 @@
 pub mod Limits
+pub mod Settling
+pub mod Allowed

@@ -81,7 +81,7 @@ unmarked s = withMark s noMark
 -- Evening: what decides automatic exercise
 abbrev pub fixingOf : Series → ℕ → Fixing
 fixingOf s day =
-    record { option = s .listing .option; last = lastDay s day; strike = s .listing .strike; future = s .mark .future }
+    record { option = s .listing .option; last = lastDay s day; strike = s .listing .strike; price = s .mark .future }
 
 -- the position that exercise leaves at place k, "and 0 on the last day"
 abbrev pub closing : Series → ℕ → ℕ → ℤ

@@ -140,7 +140,7 @@ pub fn settle(s: Series, day: u32) -> Series
         option: option,
         last: last,
         strike: listing.strike,
-        future: s.mark.future,
+        price: s.mark.future,
     };
     let held = s.positions;
     let requests = s.requests;

@@ -4,13 +4,12 @@ use mathlib.Core.Path.{_≡_, sym, _∙_}
 use Prim.Native.Nat.{ℕ, _+_, _-_, _*_, _≤_, _<_}
 use native.Mathlib.Omega.{arith}
 use lib.IntN.{ℤ, pos, _+ℤ_, _-ℤ_}
-use mathlib.Core.List.{List}
 use lib.ListN.{getD, getD-replicate}
 use mir.Syntax.{w64}
 use Rattle.integer.specs.Bounds.{Within, Bounded, within-pos, bounded-at}
 use Rattle.integer.specs.Machine.{Reads, same, local, fits, more, fewer, moved-is}
 use Rattle.integer.specs.Sum.{at}
-use Rattle.integer.specs.Table.{Filled, filled-all}
+use Rattle.integer.specs.Table.{Filled, filled-ext, filled-all}
 use Rattle.margin.specs.Margin.{tradeOf, tradedValue, TradeWithin}
 use Rattle.margin.specs.declared.trade.Trade.{Trade}
 use Rattle.margin.proofs.Cost.{due, due-small, paid-over, traded-none, traded-next, traded-small}
@@ -22,9 +21,6 @@ Inv-loop trades blotter coefficients out₀ k₀ out k = (k ≤ trades) × Fille
 
 abbrev μ-loop : tie.MeasureT-loop
 μ-loop trades blotter coefficients out₀ k₀ out k = trades - k
-
-rw-filled : {n i : ℕ} {l : List ℤ} {f g : ℕ → ℤ} → ((a : ℕ) → f a ≡ g a) → Filled n i l (pos 0) f → Filled n i l (pos 0) g
-rw-filled e h = record { len = h .len; done = λ a lt. h .done a lt ∙ e a }
 
 -- the turn of the loop
 module _ (c : tie.In-loop Inv-loop μ-loop) where
@@ -126,7 +122,7 @@ loop-again c =
     let out = l .before .loop .out in (
       omega arith,
       rw (moved-is w64 out (trade l .buyer) (trade l .seller) (w .apart) (bounded l) (owed (c .before .before)) tt tt)
-          (rw-filled (λ a. sym (traded-next (l .before .before .args .t1) (l .before .before .args .t3) (l .before .loop .k) a))
+          (filled-ext (λ a. sym (traded-next (l .before .before .args .t1) (l .before .before .args .t3) (l .before .loop .k) a))
           (paid-over (coefficient l) (trade l) (w .apart) out _ (w .buyer) (w .seller) (l .before .loop .inv .1))),
     )
 

@@ -1,32 +1,53 @@
+-- `series::settle` meets its contract.
+use mathlib.Core.Path.{ap, _∙_}
+use native.Mathlib.Omega.{arith}
+use lib.ListN.{replicate}
+use mathlib.Core.Bool.{false}
+use Rattle.exercise.specs.Places.{places}
+use Rattle.exercise.specs.declared.types.Outcome.{Outcome}
+use Rattle.integer.specs.Bounds.{bounded-le}
+use Rattle.series.proofs.Settling.{closed, futures-grown, new-futures-bounded}
 use borrow.Author.Needs.{needs}
 use Rattle.series.proofs.change.settle.Statement.{statement}
 use Rattle.series.proofs.change.settle.Tie as tie
-use Rattle.series.proofs.change.settle.Reads as reads
-use Rattle.series.proofs.change.settle.Lts as lts
-use Rattle.exercise.proofs.evening.Reads as evening-reads
-use Rattle.series.proofs.change.closing.Reads as closing-reads
-use Rattle.series.proofs.change.grown.Reads as grown-reads
-use Rattle.series.proofs.change.no_mark.Reads as no-mark-reads
 
--- src/change.rt:148:9
+abbrev start : tie.After-evening → tie.Start
+start c = c .before .before .before .before .before .before
+
 evening-requires : tie.Need-evening-requires
 evening-requires c κs = search needs
 
--- src/change.rt:151:9
 closing-requires : tie.Need-closing-requires
 closing-requires c κs = search needs
 
--- src/change.rt:153:9
 no-mark-requires : tie.Need-no-mark-requires
 no-mark-requires c κs = search needs
 
--- src/change.rt:162:18
 grown-requires : tie.Need-grown-requires
-grown-requires c κs = ?
+grown-requires c κs =
+    let e = c .before .before .before .before .before in
+    let b = start e in (
+      bounded-le (b .pre .0 .futures .bounded) (omega arith),
+      new-futures-bounded (b .args .s) (b .args .day) (b .pre .0) _ (ap (λ (o : Outcome). o .futures) (e .evening .ensures)),
+    )
 
--- src/change.rt:132:1
 returns : tie.Need-returns
-returns c = ?
+returns c =
+    let e = c .before .before .before .before .before .before in
+    let b = start e in
+    let s = b .args .s in
+    let day = b .args .day in
+    let positions = c .before .before .before .closing .ensures ∙ closed s day _ (ap (λ (o : Outcome). o .positions) (e .evening .ensures)) in
+    λ i. record {
+      listing = s .listing;
+      mark = c .before .no-mark .ensures i;
+      price = s .mark .option;
+      positions = positions i;
+      opening = positions i;
+      requests = replicate places 0;
+      declined = replicate places false;
+      futures = (c .grown .ensures ∙ futures-grown s day _ (ap (λ (o : Outcome). o .futures) (e .evening .ensures))) i;
+    }
 
 pub settle-spec : {M : Type 1} → statement M
 settle-spec =

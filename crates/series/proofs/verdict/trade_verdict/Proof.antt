@@ -1,5 +1,6 @@
 -- `series::trade_verdict` meets its contract: the tests are those of the rule, in its order.
 use mathlib.Core.Path.{_≡_}
+use Prim.Native.Nat.{_≤_}
 use native.Mathlib.Omega.{arith}
 use lib.IntN.{ℤ, pos, _+ℤ_, _-ℤ_}
 use mir.Syntax.{w32, w64}
@@ -41,13 +42,22 @@ rem-if8 c = search needs
 abbrev start : tie.Else8 → tie.Start
 start c = c .before .before .before .before .before .before .before .before
 
+small : (c : tie.Else8) → start c .args .quantity ≤ 1000
+small c = omega arith
+
 module _ (c : tie.After-passes-limit-arg) where
+  abbrev buyer-position : Reads 2147483648 (at (start (c .before) .args .t1 .positions) (start (c .before) .args .buyer))
+  buyer-position = any w32 (record { sfits = c .passes-limit-arg .given })
+
   abbrev bought : Reads 2147484648 (at (start (c .before) .args .t1 .positions) (start (c .before) .args .buyer) +ℤ pos (start (c .before) .args .quantity))
-  bought = plus (local w64 (any w32 (record { sfits = c .passes-limit-arg .given })) tt) (nat w64 {B = 1000} (omega arith) tt)
+  bought = plus (local w64 buyer-position tt) (nat w64 (small (c .before)) tt)
 
 module _ (c : tie.After-passes-limit-arg2) where
+  abbrev seller-position : Reads 2147483648 (at (start (c .before .before .before .before) .args .t1 .positions) (start (c .before .before .before .before) .args .seller))
+  seller-position = any w32 (record { sfits = c .passes-limit-arg2 .given })
+
   abbrev sold : Reads 2147484648 (at (start (c .before .before .before .before) .args .t1 .positions) (start (c .before .before .before .before) .args .seller) -ℤ pos (start (c .before .before .before .before) .args .quantity))
-  sold = minus (local w64 (any w32 (record { sfits = c .passes-limit-arg2 .given })) tt) (nat w64 {B = 1000} (omega arith) tt)
+  sold = minus (local w64 seller-position tt) (nat w64 (small (c .before .before .before .before)) tt)
 
 -- what the two calls gave, of the positions themselves
 buyer-passes : (c : tie.After-passes-limit) → c .passes-limit .result ≡ passesLimit (at (start (c .before .before) .args .t1 .positions) (start (c .before .before) .args .buyer) +ℤ pos (start (c .before .before) .args .quantity))
@@ -66,7 +76,7 @@ element-copy-out-passes-limit : tie.Need-element-copy-out-passes-limit
 element-copy-out-passes-limit c = search needs
 
 cast-passes-limit : tie.Need-cast-passes-limit
-cast-passes-limit c = fits w64 (any w32 (record { sfits = c .passes-limit-arg .given })) tt
+cast-passes-limit c = fits w64 (buyer-position c) tt
 
 cast-passes-limit-2 : tie.Need-cast-passes-limit-2
 cast-passes-limit-2 c = search needs
@@ -87,7 +97,7 @@ element-copy-out-passes-limit-2 : tie.Need-element-copy-out-passes-limit-2
 element-copy-out-passes-limit-2 c = search needs
 
 cast-passes-limit-3 : tie.Need-cast-passes-limit-3
-cast-passes-limit-3 c = fits w64 (any w32 (record { sfits = c .passes-limit-arg2 .given })) tt
+cast-passes-limit-3 c = fits w64 (seller-position c) tt
 
 cast-passes-limit-4 : tie.Need-cast-passes-limit-4
 cast-passes-limit-4 c = search needs
