@@ -43,7 +43,7 @@ firstFrom b zero i = Nothing
 firstFrom b (suc n) i = choose (lacksMark b i) (At i) (firstFrom b n (suc i))
 
 abbrev pub firstUnmarked : Book → Found
-firstUnmarked b = firstFrom b seriesRoom 0
+firstUnmarked b = firstFrom b (b .listed) 0
 
 -- 16, no mark: a live series lacks one; the lowest such series is named
 unfoldable pub needsMark : Found → Verdict
