@@ -24,14 +24,6 @@ unfoldable pub futures : OptionType → ℕ → ℕ → ℤ
 futures Call exercised assigned = pos exercised -ℤ pos assigned
 futures Put exercised assigned = pos assigned -ℤ pos exercised
 
--- both at each place of the code's arrays, from what was exercised and assigned there
-abbrev pub settled : OptionType → (ℕ → ℤ) → (ℕ → ℕ) → (ℕ → ℕ) → Outcome
-settled option position exercised assigned =
-    record {
-      positions = table places (λ k. shrunk (position k) (exercised k) (assigned k));
-      futures = table places (λ k. futures option (exercised k) (assigned k));
-    }
-
 module _ (n : ℕ) (fixing : Fixing) (position : ℕ → ℤ) (request : ℕ → ℕ) (declined : ℕ → Bool) where
   -- what the holder at place k exercises
   abbrev pub exercisedAt : ℕ → ℕ
