@@ -1,9 +1,9 @@
 -- `futures` meets its contract. Assumes nothing.
+use borrow.Author.Needs.{needs}
 use lib.IntN.{pos, _-ℤ_}
 use mir.Syntax.{w32}
 use Rattle.integer.specs.Machine.{Reads, nat, minus, local, fits}
 use Rattle.exercise.specs.Evening.{futures}
-use borrow.Author.Needs.{needs}
 use Rattle.exercise.proofs.futures.Statement.{statement}
 use Rattle.exercise.proofs.futures.Tie as tie
 
