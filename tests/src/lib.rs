@@ -5,6 +5,7 @@
 
 pub mod book;
 pub mod codes;
+pub mod market;
 pub mod output;
 pub mod random;
 pub mod refusal;
@@ -47,3 +48,6 @@ pub fn replay(input: impl Read, mut output: impl Write) -> io::Result<()> {
     output.flush()?;
     end
 }
+
+/// The markets that the gate compares.
+pub const GATE_SEEDS: std::ops::Range<u64> = 0..600;
