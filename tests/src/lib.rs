@@ -5,6 +5,7 @@
 
 pub mod book;
 pub mod codes;
+pub mod load;
 pub mod market;
 pub mod output;
 pub mod random;
@@ -50,4 +51,4 @@ pub fn replay(input: impl Read, mut output: impl Write) -> io::Result<()> {
 }
 
 /// The markets that the gate compares.
-pub const GATE_SEEDS: std::ops::Range<u64> = 0..600;
+pub const GATE_SEEDS: std::ops::Range<u64> = 0..1000;

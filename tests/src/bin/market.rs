@@ -1,20 +1,28 @@
-//! Prints the market of a seed: `market SEED`.
+//! Prints the market of a seed, `market SEED`, or the market of the full size, `market full`.
 
-use std::io::{self, Write};
+use std::io::{self, BufWriter, Write};
 use std::process::ExitCode;
+
+use second::{load, market};
 
 fn main() -> ExitCode {
     let words: Vec<String> = std::env::args().skip(1).collect();
-    let seed = match words.as_slice() {
-        [seed] => seed.parse().ok(),
-        _ => None,
+    let mut output = BufWriter::new(io::stdout().lock());
+    let written = match words.as_slice() {
+        [word] if word == "full" => load::write(output),
+        [word] => match word.parse() {
+            Ok(seed) => output.write_all(&market::market(seed)).and_then(|()| output.flush()),
+            Err(_) => return usage(),
+        },
+        _ => return usage(),
     };
-    let Some(seed) = seed else {
-        eprintln!("usage: market SEED");
-        return ExitCode::from(2);
-    };
-    match io::stdout().write_all(&second::market::market(seed)) {
+    match written {
         Ok(()) => ExitCode::SUCCESS,
         Err(_) => ExitCode::FAILURE,
     }
+}
+
+fn usage() -> ExitCode {
+    eprintln!("usage: market SEED, or market full");
+    ExitCode::from(2)
 }
