@@ -382,9 +382,12 @@ pub fn assign(exercised: i64, short: &[i64; ACCOUNTS]) -> [i64; ACCOUNTS] {
     }
     let mut assigned = short.map(|short| exercised * short / all);
     let left = exercised - assigned.iter().sum::<i64>();
-    let mut order: [usize; ACCOUNTS] = std::array::from_fn(|account| account);
-    order.sort_by_key(|&account| (Reverse(exercised * short[account] % all), account));
-    for &account in order.iter().take(left as usize) {
+    let mut writers: Vec<(Reverse<i64>, usize)> = (0..ACCOUNTS)
+        .filter(|&account| short[account] > 0)
+        .map(|account| (Reverse(exercised * short[account] % all), account))
+        .collect();
+    writers.sort_unstable();
+    for &(_, account) in writers.iter().take(left as usize) {
         assigned[account] += 1;
     }
     assigned

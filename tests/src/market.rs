@@ -364,7 +364,11 @@ impl Market {
         let mut futures = self.random.between(0, 10_000_000);
         let mut tick_value = 100_000;
         if let Some(series) = self.book.series.get(number as usize) {
-            let strike = series.strike;
+            let (strike, tick) = (series.strike, series.tick);
+            // Now and then the tick value changes, as a rate of exchange does.
+            if self.random.one_in(3) {
+                self.tick_value[number as usize] = self.some_tick_value(tick);
+            }
             tick_value = self.tick_value[number as usize];
             futures = match self.random.below(8) {
                 0..=2 => strike,

@@ -1,4 +1,4 @@
-//! The markets of the gate's seeds reach what they are meant to reach.
+//! The markets of the gate's seeds, and the one of the full size, reach what they are meant to reach.
 
 use std::collections::BTreeMap;
 
@@ -237,4 +237,17 @@ fn every_refusal_and_every_kind_of_line() {
         assert!(census.counts.get(&what).is_some_and(|&count| count >= 5), "too few: {what}");
     }
     assert!(3 * census.carried_out > 2 * census.rows, "most rows are carried out");
+}
+
+#[test]
+fn the_market_of_the_full_size() {
+    let mut input = Vec::new();
+    second::load::write(&mut input).unwrap();
+    let mut census = Census::default();
+    census.take(&input);
+    assert!((275_000..=285_000).contains(&census.rows));
+    assert_eq!(census.carried_out, census.rows);
+    for what in ["F positive", "F negative", "M paid in an intraday", "M received in an evening", "full blotter"] {
+        assert!(census.counts[what] >= 1_000, "{what}");
+    }
 }
