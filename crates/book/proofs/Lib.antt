@@ -1,3 +1,4 @@
 pub mod Search
 pub mod Live
 pub mod Revaluation
+pub mod Trades
