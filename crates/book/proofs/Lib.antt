@@ -1,2 +1,2 @@
-pub mod Live
+pub mod LiveSeries
 pub mod Allowed
