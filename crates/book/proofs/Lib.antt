@@ -1,2 +1,3 @@
 pub mod LiveSeries
 pub mod Allowed
+pub mod KeepsEmpty
