@@ -1,3 +1,4 @@
 pub mod LiveSeries
 pub mod Allowed
 pub mod KeepsEmpty
+pub mod KeepsEvents
