@@ -3,3 +3,8 @@ pub mod Live
 pub mod Revaluation
 pub mod Trades
 pub mod Outcome
+pub mod LiveSeries
+pub mod Allowed
+pub mod KeepsEmpty
+pub mod KeepsEvents
+pub mod Money

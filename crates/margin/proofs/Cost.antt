@@ -14,12 +14,12 @@ use borrow.Author.Tests.{eq-eqb, ne-eqb}
 use Rattle.choice.specs.Choice.{choose}
 use Rattle.integer.specs.Bounds.{Within, within-pos, within-neg, within-le, within-sum}
 use Rattle.integer.specs.Ring.{*ℤ-negl}
-use Rattle.integer.specs.Sum.{sumTo, at, sumTo-zero, sumTo-next}
+use Rattle.integer.specs.Sum.{sumTo, at, sumTo-zero, sumTo-next, sum-0, sum-ext, sum-move}
 use Rattle.integer.specs.Table.{Filled}
 use Rattle.terms.specs.Bounds.{accounts, blotterRoom, maxTickValue}
 use Rattle.value.specs.Value.{valueOf}
 use Rattle.value.proofs.Bounds.{option-value-bound}
-use Rattle.margin.specs.Margin.{signed, cost, tradeOf, tradedValue, TradeWithin, TradesWithin, CoefficientsWithin}
+use Rattle.margin.specs.Margin.{signed, cost, costIn, tradeOf, tradedValue, TradeWithin, TradesWithin, CoefficientsWithin}
 use Rattle.margin.specs.declared.trade.Trade.{Trade}
 
 -- quantity × V(price)
@@ -70,6 +70,29 @@ module _ (c : ℕ) (t : Trade) (apart : t .buyer ≢ t .seller) where
       by a lt (no e) (no g) =
           getD-set-other m y a _ (pos 0) g ∙ getD-set-other l x a _ (pos 0) e
           ∙ rw (h .done a lt, cost-other a e g) (sym (+ℤ-idr (f a)))
+
+  -- what the buyer pays is what the seller receives
+  pub cost-balances : (n : ℕ) → t .buyer < n → t .seller < n → sumTo n (cost c t) ≡ pos 0
+  cost-balances n hb hs =
+      sum-move n (t .buyer) (t .seller) (pos (due c t)) (λ k. pos 0) (cost c t) hb hs apart
+      (cost-buyer ∙ sym (+ℤ-idl (pos (due c t)))) (cost-seller ∙ sym (+ℤ-idl (negℤ (pos (due c t))))) cost-other
+      ∙ sum-0 n
+
+-- ---- a trade in one series
+pub cost-here : (c : ℕ) (t : Trade) (a : ℕ) → costIn (t .series) c t a ≡ cost c t a
+unfolding costIn choose
+cost-here c t a = rw (eq-eqb (t .series) (t .series) refl)
+
+pub cost-elsewhere : (i c : ℕ) (t : Trade) (a : ℕ) → i ≢ t .series → costIn i c t a ≡ pos 0
+unfolding costIn choose
+cost-elsewhere i c t a ne = rw (ne-eqb (t .series) i (λ e. ne (sym e)))
+
+pub costIn-balances : (i c : ℕ) (t : Trade) → t .buyer ≢ t .seller → (n : ℕ) → t .buyer < n → t .seller < n → sumTo n (costIn i c t) ≡ pos 0
+costIn-balances i c t apart n hb hs = by (ℕ-discrete i (t .series))
+  where
+    by : Dec (i ≡ t .series) → sumTo n (costIn i c t) ≡ pos 0
+    by (yes e) = rw e (sum-ext n _ _ (λ a _. cost-here c t a) ∙ cost-balances c t apart n hb hs)
+    by (no ne) = sum-ext n _ _ (λ a _. cost-elsewhere i c t a ne) ∙ sum-0 n
 
 -- a trade moves at most 1,000 × 2,000,000,000
 pub due-small : (c : ℕ) (t : Trade) → c ≤ maxTickValue → TradeWithin t → due c t ≤ 2000000000000
