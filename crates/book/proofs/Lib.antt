@@ -1,5 +1,10 @@
+pub mod Search
+pub mod Live
+pub mod Revaluation
+pub mod Trades
 pub mod LiveSeries
 pub mod Allowed
+pub mod Money
 pub mod KeepsEmpty
 pub mod KeepsEvents
-pub mod Money
+pub mod KeepsSessions

@@ -6,7 +6,7 @@ use lib.IntN.{ℤ, pos, _+ℤ_, _-ℤ_}
 use Rattle.choice.specs.Choice.{choose}
 use Rattle.integer.specs.Sum.{sumTo, at}
 use Rattle.integer.specs.Table.{table}
-use Rattle.margin.specs.Margin.{worth, costIn, marginOf}
+use Rattle.margin.specs.Margin.{worth, costIn, revalued}
 use Rattle.terms.specs.Bounds.{accounts, seriesRoom}
 use Rattle.series.specs.Changes.{unmarked, closing, settled}
 use Rattle.series.specs.Series.{placeOf, positionOf}
@@ -18,12 +18,14 @@ use Rattle.book.specs.declared.state.Book.{Book}
 abbrev pub tradedIn : Book → ℕ → ℕ → ℤ
 tradedIn b i a = sumTo (b .trades) (λ k. costIn i (seriesAt b i .mark .coefficient) (tradeAt b k) a)
 
--- "n × V(p) − B × V(b) − (sum over the day's blotter ..)": p and c come from this mark, B is the position at the day's start and b the
--- last evening's price
+-- "n × V(p) − B × V(b)": p and c come from this mark, B is the position at the day's start and b the last evening's price
+abbrev pub revaluedIn : Series → ℕ → ℤ → ℤ
+revaluedIn s a n =
+    revalued n (worth (s .mark .coefficient) (s .mark .option)) (at (s .opening) (placeOf a)) (worth (s .mark .coefficient) (s .price))
+
+-- "n × V(p) − B × V(b) − (sum over the day's blotter ..)"
 abbrev pub marginIn : Book → ℕ → ℕ → ℤ → ℤ
-marginIn b i a n =
-    let s = seriesAt b i in
-    marginOf n (worth (s .mark .coefficient) (s .mark .option)) (at (s .opening) (placeOf a)) (worth (s .mark .coefficient) (s .price)) (tradedIn b i a)
+marginIn b i a n = revaluedIn (seriesAt b i) a n -ℤ tradedIn b i a
 
 -- over the live series
 abbrev pub overLive : Book → (ℕ → ℤ) → ℤ

@@ -16,10 +16,10 @@ use Rattle.integer.specs.Sum.{sumTo, at}
 use Rattle.integer.specs.Table.{table, length-table, getD-table, is-table, table-ext}
 use Rattle.exercise.specs.declared.types.Fixing.{Fixing}
 use Rattle.exercise.specs.declared.types.Outcome.{Outcome}
-use Rattle.exercise.specs.Places.{places, limit, amount, flag, AtMost}
+use Rattle.exercise.specs.Places.{places, limit, amount, flag}
 use Rattle.exercise.specs.Exercise.{held, short}
 use Rattle.exercise.specs.Assignment.{assigned}
-use Rattle.exercise.specs.Evening.{shrunk, futures, settled, exercisedAt, exercisedInAll, assignedAt, remaining, arisen, outcome}
+use Rattle.exercise.specs.Evening.{shrunk, futures, exercisedAt, exercisedInAll, assignedAt, remaining, arisen, outcome}
 use Rattle.exercise.proofs.Assigning.{assigned-ext, assigned-no-more}
 use Rattle.exercise.proofs.Session.{exercised-no-more, exercised-covered, all-remain, none-arise}
 
@@ -27,12 +27,12 @@ use Rattle.exercise.proofs.Session.{exercised-no-more, exercised-covere
 amount-table : (n : ℕ) (f : ℕ → ℕ) (l : List ℕ) → l ≡ table n f → (k : ℕ) → k < n → amount l k ≡ f k
 amount-table n f l e k lt = ap (λ (m : List ℕ). amount m k) e ∙ getD-table n f k 0 lt
 
-at-most-table : {B n : ℕ} (f : ℕ → ℕ) (l : List ℕ) → l ≡ table n f → ((k : ℕ) → k < n → f k ≤ B) → AtMost B l
-at-most-table {B} {n} f l e h = record { each = λ k. by k (decLt k n) }
+at-most-table : {B n : ℕ} (f : ℕ → ℕ) (l : List ℕ) → l ≡ table n f → ((k : ℕ) → k < n → f k ≤ B) → (k : ℕ) → amount l k ≤ B
+at-most-table {B} {n} f l e h k = by (decLt k n)
   where
-    by : (k : ℕ) → Dec (k < n) → amount l k ≤ B
-    by k (yes lt) = rw (amount-table n f l e k lt) (h k lt)
-    by k (no ge) = rw (List·getD-eq-default l 0 {n = k} (omega (arith, ap length e ∙ length-table n f))) (omega arith)
+    by : Dec (k < n) → amount l k ≤ B
+    by (yes lt) = rw (amount-table n f l e k lt) (h k lt)
+    by (no ge) = rw (List·getD-eq-default l 0 {n = k} (omega (arith, ap length e ∙ length-table n f))) (omega arith)
 
 -- a bounded position is short, and holds, no more than its bound
 short-few : {B : ℕ} (positions : List ℤ) → Bounded B positions → (k : ℕ) → short (at positions k) ≤ B
@@ -72,7 +72,7 @@ module _ (fixing : Fixing) (positions : List ℤ) (requests : List ℕ) (decline
   in-all : e ≡ exercisedInAll places fixing (at positions) (amount requests) (flag declined)
   in-all = e-is ∙ sumℕ-ext places (amount xs) x xs-at
 
-  pub exercised-few : AtMost limit xs
+  pub exercised-few : (k : ℕ) → amount xs k ≤ limit
   exercised-few =
       at-most-table x xs xs-is
       (λ k lt. le-trans (exercised-no-more fixing (at positions k) (amount requests k) (flag declined k)) (held-few positions bounded k))
@@ -95,7 +95,7 @@ module _ (fixing : Fixing) (positions : List ℤ) (requests : List ℕ) (decline
   enough level = omega (arith, in-all, exercised-covered places fixing (at positions) (amount requests) (flag declined) level)
 
   module _ (level : sumTo places (at positions) ≡ pos 0) (given : List ℕ) (given-is : given ≡ table places (assigned places e (λ k. short (at positions k)))) where
-    pub assigned-few : AtMost limit given
+    pub assigned-few : (k : ℕ) → amount given k ≤ limit
     assigned-few =
         at-most-table (assigned places e (λ k. short (at positions k))) given given-is
         (λ k lt. le-trans (assigned-no-more places e (λ k. short (at positions k)) (enough level) k) (short-few positions bounded k))
@@ -105,11 +105,16 @@ module _ (fixing : Fixing) (positions : List ℤ) (requests : List ℕ) (decline
         amount-table places (assigned places e (λ k. short (at positions k))) given given-is k lt
         ∙ ap (λ (m : ℕ). assigned places m (λ j. short (at positions j)) k) in-all
 
-    pub all-done : settled (fixing .option) (at positions) (amount xs) (amount given) ≡ outcome fixing positions requests declined
+    pub all-done : (r : Outcome)
+        → r ≡ record {
+          positions = table places (λ k. shrunk (at positions k) (amount xs k) (amount given k));
+          futures = table places (λ k. futures (fixing .option) (amount xs k) (amount given k));
+        }
+        → r ≡ outcome fixing positions requests declined
     unfolding outcome remaining arisen
-    all-done = λ i. record {
+    all-done r e = e ∙ (λ i. record {
       positions = table-ext places (λ k. shrunk (at positions k) (amount xs k) (amount given k)) (remaining places fixing (at positions) (amount requests) (flag declined))
           (λ k lt. ap₂ (shrunk (at positions k)) (xs-at k lt) (given-at k lt)) i;
       futures = table-ext places (λ k. futures (fixing .option) (amount xs k) (amount given k)) (arisen places fixing (at positions) (amount requests) (flag declined))
           (λ k lt. ap₂ (futures (fixing .option)) (xs-at k lt) (given-at k lt)) i;
-    }
+    })

@@ -1,8 +1,8 @@
--- The arrays of a series as functions of the place, an index into them. All definitions and laws here go over any number n of
--- places; only the code fixes it.
+-- The arrays of a series as functions of the place, an index into them. The definitions and laws of this crate go over any
+-- number n of places; only the code fixes it.
 use mathlib.Core.Bool.{Bool, false}
 use mathlib.Core.List.{List}
-use Prim.Native.Nat.{ℕ, _≤_}
+use Prim.Native.Nat.{ℕ}
 use lib.ListN.{getD}
 
 -- how many places the code's arrays have
@@ -19,7 +19,3 @@ amount l k = getD l k 0
 
 abbrev pub flag : List Bool → ℕ → Bool
 flag l k = getD l k false
-
--- each number of an array is at most B
-pub record AtMost (B : ℕ) (l : List ℕ) : Type 0 where
-  pub each : (k : ℕ) → amount l k ≤ B

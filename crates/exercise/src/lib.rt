@@ -10,11 +10,12 @@ use types::Fixing;
 use types::Outcome;
 use types::PLACES;
 ghost use mathlib.Core.Path.{_≡_};
-ghost use Prim.Native.Nat.{_≤_};
+ghost use Prim.Native.Nat.{ℕ, _≤_};
 ghost use lib.IntN.{pos};
 ghost use Rattle.integer.specs.Bounds.{Within, Bounded};
 ghost use Rattle.integer.specs.Sum.{sumTo, at};
-ghost use Rattle.exercise.specs.Places.{places, limit, amount, AtMost};
+ghost use Rattle.integer.specs.Table.{table};
+ghost use Rattle.exercise.specs.Places.{places, limit, amount};
 ghost use Rattle.exercise.specs.Evening as rule;
 
 // The position that remains once contracts of it were exercised or assigned.
@@ -43,8 +44,8 @@ fn settled(
     exercised: [u32; PLACES],
     assigned: [u32; PLACES],
 ) -> Outcome
-    requires { ⌜ (Bounded limit positions) × (AtMost limit exercised) × (AtMost limit assigned) ⌝ }
-    ensures { λ r. ⌜ r ≡ rule.settled option (at positions) (amount exercised) (amount assigned) ⌝ }
+    requires { ⌜ (Bounded limit positions) × ((k : ℕ) → amount exercised k ≤ limit) × ((k : ℕ) → amount assigned k ≤ limit) ⌝ }
+    ensures { λ r. ⌜ r ≡ record { positions = table places (λ k. rule.shrunk (at positions k) (amount exercised k) (amount assigned k)); futures = table places (λ k. rule.futures option (amount exercised k) (amount assigned k)) } ⌝ }
 {
     let mut remaining = [0i32; PLACES];
     let mut arisen = [0i32; PLACES];

@@ -3,7 +3,7 @@ use mathlib.Core.Path.{_≡_, refl, sym, ap, _∙_}
 use mathlib.Core.List.{List, [], _∷_}
 use Prim.Native.Nat.{ℕ, zero, suc, _+_, _<_, _≤_}
 use native.Mathlib.Nat.{le-of-suc-le-suc, not-suc-le-zero, zero-lt-suc}
-use native.Mathlib.Decide.{ℕ-discrete}
+use native.Mathlib.Decide.{ℕ-discrete, decLt}
 use native.Mathlib.Omega.{arith}
 use lib.ListN.{length, getD, set, replicate, length-set, length-replicate, getD-replicate}
 use lib.Seq.{ext-getD, getD-set-same, getD-set-other}
@@ -88,6 +88,18 @@ module _ {A : Type 0} where
 
       not : (k : ℕ) → i + 1 ≤ k → k ≡ i → ⊥
       not k le q = omega arith
+
+  -- the loop may stop at i where f leaves the rest as it was
+  pub updated-rest : {n i : ℕ} {l m : List A} {d : A} {f : ℕ → A} → Updated n i l m d f
+      → ((k : ℕ) → i ≤ k → k < n → getD m k d ≡ f k) → l ≡ table n f
+  updated-rest {n} {i} {l} {m} {d} {f} h rest = is-table n f l d (h .len) (λ k lt. by k lt (decLt k i))
+    where
+      past : (k : ℕ) → ¬ (k < i) → i ≤ k
+      past k h = omega arith
+
+      by : (k : ℕ) → k < n → Dec (k < i) → getD l k d ≡ f k
+      by k lt (yes below) = h .done k below
+      by k lt (no above) = h .left k (past k above) ∙ rest k (past k above) lt
 
   pub updated-all : {n i : ℕ} {l m : List A} {d : A} {f : ℕ → A} → Updated n i l m d f → n ≤ i → l ≡ table n f
   updated-all {n} {i} {l} {m} {d} {f} h le = is-table n f l d (h .len) (λ k lt. h .done k (omega arith))

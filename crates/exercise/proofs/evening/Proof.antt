@@ -1,6 +1,6 @@
 -- `evening` meets its contract. Assumes nothing.
 use borrow.Author.Needs.{needs}
-use mathlib.Core.Path.{_≡_, _∙_}
+use mathlib.Core.Path.{_≡_}
 use lib.ListN.{length}
 use Rattle.exercise.specs.Places.{places}
 use Rattle.exercise.proofs.Arrays as law
@@ -48,9 +48,9 @@ returns-2 c =
     let s = c .before .before .before .before .before in
     let x = c .before .before .before .before .exercised-by-place in
     let e = c .before .before .before .total in
-    c .settled .ensures
-    ∙ law.all-done (s .args .fixing) (s .args .positions) (s .args .requests) (s .args .declined) (s .pre .0)
+    law.all-done (s .args .fixing) (s .args .positions) (s .args .requests) (s .args .declined) (s .pre .0)
     (x .result) (e .result) (x .ensures) (e .ensures) (s .pre .1) (c .before .assign .result) (c .before .assign .ensures)
+    (c .settled .result) (c .settled .ensures)
 
 pub evening-spec : {M : Type 1} → statement M
 evening-spec =

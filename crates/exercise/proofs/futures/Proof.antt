@@ -1,9 +1,9 @@
 -- `futures` meets its contract. Assumes nothing.
+use borrow.Author.Needs.{needs}
 use lib.IntN.{pos, _-ℤ_}
 use mir.Syntax.{w32}
 use Rattle.integer.specs.Machine.{Reads, nat, minus, local, fits}
 use Rattle.exercise.specs.Evening.{futures}
-use borrow.Author.Needs.{needs}
 use Rattle.exercise.proofs.futures.Statement.{statement}
 use Rattle.exercise.proofs.futures.Tie as tie
 
@@ -13,6 +13,14 @@ module _ (c : tie.Start) where
 
   abbrev put : Reads 200000 (pos (c .args .assigned) -ℤ pos (c .args .exercised))
   put = minus (nat w32 (c .pre .1) tt) (nat w32 (c .pre .0) tt)
+
+returns : tie.Need-returns
+unfolding futures
+returns c = rw (c .enum-told .given .1) (local w32 (call (c .before .before)) tt .is)
+
+returns-2 : tie.Need-returns-2
+unfolding futures
+returns-2 c = rw (c .enum-told2 .given .1) (local w32 (put (c .before .before)) tt .is)
 
 enum-told : tie.Need-enum-told
 enum-told c = search needs
@@ -37,14 +45,6 @@ cast-result-4 c = search needs
 
 sub-result-2 : tie.Need-sub-result-2
 sub-result-2 c = fits w32 (put (c .before .before)) tt
-
-returns : tie.Need-returns
-unfolding futures
-returns c = rw (c .enum-told .given .1) (local w32 (call (c .before .before)) tt .is)
-
-returns-2 : tie.Need-returns-2
-unfolding futures
-returns-2 c = rw (c .enum-told2 .given .1) (local w32 (put (c .before .before)) tt .is)
 
 pub futures-spec : {M : Type 1} → statement M
 futures-spec =

@@ -49,7 +49,7 @@ shrunk-requires : tie.Need-shrunk-requires Inv-loop μ-loop
 shrunk-requires c κs =
     let l = c .before .before in
     let k = l .loop .place in
-    (passed w32 (l .before .pre .0 .each k) tt, l .before .pre .1 .each k, l .before .pre .2 .each k)
+    (passed w32 (l .before .pre .0 .each k) tt, l .before .pre .1 k, l .before .pre .2 k)
 
 mul-remaining : tie.Need-mul-remaining Inv-loop μ-loop
 mul-remaining c = search needs
@@ -72,7 +72,7 @@ array-read-futures-2 c = search needs
 futures-requires : tie.Need-futures-requires Inv-loop μ-loop
 futures-requires c κs =
     let l = c .before .before .before in
-    (l .before .pre .1 .each (l .loop .place), l .before .pre .2 .each (l .loop .place))
+    (l .before .pre .1 (l .loop .place), l .before .pre .2 (l .loop .place))
 
 mul-arisen : tie.Need-mul-arisen Inv-loop μ-loop
 mul-arisen c = search needs

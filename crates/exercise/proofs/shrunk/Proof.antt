@@ -1,9 +1,9 @@
 -- `shrunk` meets its contract. Assumes nothing.
+use borrow.Author.Needs.{needs}
 use lib.IntN.{pos, _+ℤ_, _-ℤ_}
 use mir.Syntax.{w32}
 use Rattle.integer.specs.Machine.{Reads, param, nat, plus, minus, local, fits}
 use Rattle.exercise.specs.Evening.{shrunk}
-use borrow.Author.Needs.{needs}
 use Rattle.exercise.proofs.shrunk.Statement.{statement}
 use Rattle.exercise.proofs.shrunk.Tie as tie
 

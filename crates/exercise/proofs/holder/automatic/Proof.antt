@@ -1,8 +1,8 @@
-use mathlib.Core.Path.{refl, sym, _∙_}
 use borrow.Author.Tests.{eq-eqb, ne-eqb}
+use borrow.Author.Needs.{needs}
+use mathlib.Core.Path.{refl, sym, _∙_}
 use Rattle.choice.specs.Choice.{hit, past}
 use Rattle.exercise.specs.Exercise.{automatic}
-use borrow.Author.Needs.{needs}
 use Rattle.exercise.proofs.holder.automatic.Statement.{statement}
 use Rattle.exercise.proofs.holder.automatic.Tie as tie
 

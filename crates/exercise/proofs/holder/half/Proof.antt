@@ -1,6 +1,6 @@
+use borrow.Author.Needs.{needs}
 use native.Mathlib.Omega.{arith}
 use Rattle.exercise.specs.Exercise.{half}
-use borrow.Author.Needs.{needs}
 use Rattle.exercise.proofs.holder.half.Statement.{statement}
 use Rattle.exercise.proofs.holder.half.Tie as tie
 

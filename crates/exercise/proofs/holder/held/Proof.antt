@@ -5,8 +5,8 @@ use lib.IntN.{pos}
 use mir.Syntax.{w32}
 use Rattle.integer.specs.Ring.{part⁻}
 use Rattle.integer.specs.Order.{lt-yes, lt-no}
-use Rattle.exercise.proofs.Sides.{one-side}
 use Rattle.integer.specs.Machine.{any, lit, less, unsigned-gives}
+use Rattle.exercise.proofs.Sides.{one-side}
 use Rattle.exercise.proofs.Casts.{cast-asks}
 use Rattle.exercise.proofs.holder.held.Statement.{statement}
 use Rattle.exercise.proofs.holder.held.Tie as tie

@@ -1,5 +1,5 @@
-use Rattle.exercise.specs.Exercise.{inTheMoney}
 use borrow.Author.Needs.{needs}
+use Rattle.exercise.specs.Exercise.{inTheMoney}
 use Rattle.exercise.proofs.holder.in_the_money.Statement.{statement}
 use Rattle.exercise.proofs.holder.in_the_money.Tie as tie
 

@@ -2,6 +2,7 @@
 use borrow.Author.Needs.{needs}
 use mathlib.Core.Path.{refl, sym, ap, _∙_}
 use Prim.Native.Nat.{ℕ}
+use native.Mathlib.Omega.{arith}
 use lib.ListN.{getD-replicate}
 use Rattle.integer.specs.Sum.{at}
 use Rattle.integer.specs.Table.{is-table}
@@ -9,7 +10,6 @@ use Rattle.exercise.specs.Places.{places}
 use Rattle.exercise.specs.Exercise.{short}
 use Rattle.exercise.specs.Assignment.{assigned}
 use Rattle.exercise.proofs.Assigning.{none-assigned}
-use native.Mathlib.Omega.{arith}
 use Rattle.exercise.proofs.Arrays.{shorts-in-all, shorts-fit, shorts-assigned}
 use Rattle.exercise.proofs.writer.assign.Statement.{statement}
 use Rattle.exercise.proofs.writer.assign.Tie as tie

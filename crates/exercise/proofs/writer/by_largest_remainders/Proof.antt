@@ -1,12 +1,12 @@
 -- `by_largest_remainders` meets its contract: after each turn one place more is served, in the order of their ranks. Assumes nothing.
 use borrow.Author.Needs.{needs}
+use borrow.Author.Tests.{le-ltb}
 use mathlib.Core.Logic.{⊎-elim}
 use mathlib.Core.Path.{_≡_, sym, ap, _∙_, subst}
+use mathlib.Core.List.{List}
 use Prim.Native.Nat.{ℕ, _≤_, _<_, _-_, _+_}
 use native.Mathlib.Omega.{arith}
 use lib.Dec.{ltb}
-use borrow.Author.Tests.{le-ltb}
-use mathlib.Core.List.{List}
 use Rattle.integer.specs.NatSum.{sumℕ, sumℕ-term}
 use Rattle.integer.specs.Count.{bit, count, count-most}
 use Rattle.integer.specs.Table.{table}

@@ -1,0 +1,223 @@
+//! Runs a program on the markets of many seeds and compares its output, byte for byte, with the second implementation's:
+//! `compare PROGRAM DIRECTORY [FIRST COUNT]`. The input of a market that differs is left in the directory.
+
+use std::fs::{self, File};
+use std::io::{self, Read, Write};
+use std::ops::Range;
+use std::path::PathBuf;
+use std::process::{Child, Command, ExitCode, ExitStatus, Stdio};
+use std::sync::mpsc;
+use std::thread;
+use std::time::Duration;
+
+use second::market::{kind, market};
+use second::random::Random;
+use second::rows::Rows;
+use second::{output, replay, GATE_SEEDS};
+
+const PATIENCE: Duration = Duration::from_secs(60);
+
+/// How many differences are told in full.
+const TOLD: u64 = 5;
+
+struct Comparison {
+    program: PathBuf,
+    directory: PathBuf,
+    passed: u64,
+    failed: u64,
+}
+
+fn main() -> ExitCode {
+    let words: Vec<String> = std::env::args().skip(1).collect();
+    let Some((program, directory, seeds)) = options(&words) else {
+        eprintln!("usage: compare PROGRAM DIRECTORY [FIRST COUNT]");
+        return ExitCode::from(2);
+    };
+    if !program.is_file() {
+        eprintln!("{}: there is no such program", program.display());
+        return ExitCode::from(2);
+    }
+    let mut comparison = Comparison { program, directory, passed: 0, failed: 0 };
+    if let Err(error) = fs::create_dir_all(&comparison.directory) {
+        eprintln!("{}: {error}", comparison.directory.display());
+        return ExitCode::from(2);
+    }
+    for seed in seeds {
+        let result = comparison.market(seed);
+        comparison.count(&format!("market {seed} ({:?})", kind(seed)), result);
+    }
+    let result = comparison.closed_output();
+    comparison.count("closed output", result);
+    let result = comparison.read_error();
+    comparison.count("read error", result);
+    println!("{} passed, {} failed", comparison.passed, comparison.failed);
+    if comparison.failed == 0 {
+        ExitCode::SUCCESS
+    } else {
+        ExitCode::FAILURE
+    }
+}
+
+fn options(words: &[String]) -> Option<(PathBuf, PathBuf, Range<u64>)> {
+    let (program, directory, seeds) = match words {
+        [program, directory] => (program, directory, GATE_SEEDS),
+        [program, directory, first, count] => {
+            let first: u64 = first.parse().ok()?;
+            (program, directory, first..first.checked_add(count.parse().ok()?)?)
+        }
+        _ => return None,
+    };
+    // A path without a slash would be looked for elsewhere.
+    Some((fs::canonicalize(program).unwrap_or(program.into()), directory.into(), seeds))
+}
+
+impl Comparison {
+    fn count(&mut self, name: &str, result: Result<(), String>) {
+        match result {
+            Ok(()) => self.passed += 1,
+            Err(why) => {
+                self.failed += 1;
+                if self.failed <= TOLD {
+                    println!("{name}: {why}");
+                }
+            }
+        }
+    }
+
+    /// The whole output on one market.
+    fn market(&self, seed: u64) -> Result<(), String> {
+        let input = market(seed);
+        let mut expected = Vec::new();
+        replay(input.as_slice(), &mut expected).expect("memory can be read and written");
+        let result = self.run(seed, &input).and_then(|(output, status)| {
+            if output != expected {
+                Err(first_difference(&input, &expected, &output))
+            } else if !status.success() {
+                Err(format!("it ended with {status}"))
+            } else {
+                Ok(())
+            }
+        });
+        let path = self.directory.join(format!("market-{seed}.csv"));
+        match result {
+            Ok(()) => {
+                // What an earlier run may have left.
+                let _ = fs::remove_file(path);
+                Ok(())
+            }
+            Err(why) => match fs::write(&path, &input) {
+                Ok(()) => Err(format!("{why}\n  input: {}", path.display())),
+                Err(error) => Err(format!("{why}\n  {}: {error}", path.display())),
+            },
+        }
+    }
+
+    /// Runs the program, on a file or on a pipe that is filled in pieces of various sizes.
+    fn run(&self, seed: u64, input: &[u8]) -> Result<(Vec<u8>, ExitStatus), String> {
+        let mut random = Random::new(seed);
+        if random.one_in(4) {
+            let path = self.directory.join("input.csv");
+            fs::write(&path, input).map_err(|error| error.to_string())?;
+            let file = File::open(&path).map_err(|error| error.to_string())?;
+            return finish(self.start(file.into())?);
+        }
+        let mut child = self.start(Stdio::piped())?;
+        let mut pipe = child.stdin.take().expect("it was asked for");
+        let bytes = input.to_vec();
+        let largest = random.pick(&[3, 100, 5_000, 70_000]).max(bytes.len() as u64 / 5_000);
+        thread::spawn(move || {
+            let mut rest = bytes.as_slice();
+            while !rest.is_empty() {
+                let (piece, others) = rest.split_at((random.between(1, largest) as usize).min(rest.len()));
+                if pipe.write_all(piece).is_err() {
+                    break;
+                }
+                rest = others;
+            }
+        });
+        finish(child)
+    }
+
+    fn start(&self, input: Stdio) -> Result<Child, String> {
+        let mut command = Command::new(&self.program);
+        let child = command.stdin(input).stdout(Stdio::piped()).spawn();
+        child.map_err(|error| format!("{}: {error}", self.program.display()))
+    }
+
+    /// A program whose output nobody reads comes to an end all the same.
+    fn closed_output(&self) -> Result<(), String> {
+        let mut child = self.start(Stdio::piped())?;
+        drop(child.stdout.take());
+        let mut pipe = child.stdin.take().expect("it was asked for");
+        thread::spawn(move || while pipe.write_all(&b"I\r\n".repeat(10_000)).is_ok() {});
+        for _ in 0..PATIENCE.as_millis() / 10 {
+            match child.try_wait() {
+                Ok(Some(_)) => return Ok(()),
+                Ok(None) => thread::sleep(Duration::from_millis(10)),
+                Err(error) => return Err(error.to_string()),
+            }
+        }
+        let _ = child.kill();
+        Err("it runs on".into())
+    }
+
+    /// An input that can't be read, as a directory can't, gives the header alone.
+    fn read_error(&self) -> Result<(), String> {
+        let directory = File::open(&self.directory).map_err(|error| error.to_string())?;
+        let (output, status) = finish(self.start(directory.into())?)?;
+        if output != output::HEADER {
+            return Err(format!("it wrote {:?}", String::from_utf8_lossy(&output)));
+        }
+        if status.code().is_none() {
+            return Err(format!("it ended with {status}"));
+        }
+        Ok(())
+    }
+}
+
+/// Reads the child's output to its end, but with an end to patience.
+fn finish(mut child: Child) -> Result<(Vec<u8>, ExitStatus), String> {
+    let mut pipe = child.stdout.take().expect("it was asked for");
+    let (sender, receiver) = mpsc::channel();
+    thread::spawn(move || {
+        let mut output = Vec::new();
+        let result: io::Result<usize> = pipe.read_to_end(&mut output);
+        let _ = sender.send(result.map(|_| output));
+    });
+    let output = receiver.recv_timeout(PATIENCE);
+    if output.is_err() {
+        let _ = child.kill();
+    }
+    let status = child.wait().map_err(|error| error.to_string())?;
+    match output {
+        Ok(Ok(output)) => Ok((output, status)),
+        Ok(Err(error)) => Err(error.to_string()),
+        Err(_) => Err(format!("no end after {} seconds", PATIENCE.as_secs())),
+    }
+}
+
+/// Tells the first row whose lines differ, with both lines.
+fn first_difference(input: &[u8], expected: &[u8], output: &[u8]) -> String {
+    let lines = |bytes: &[u8]| -> Vec<String> {
+        bytes.split_inclusive(|&byte| byte == b'\n').map(|line| String::from_utf8_lossy(line).into_owned()).collect()
+    };
+    let (expected, output) = (lines(expected), lines(output));
+    let place = expected.iter().zip(&output).take_while(|(a, b)| a == b).count();
+    let shown = |lines: &[String]| lines.get(place).map_or("nothing".into(), |line| format!("{line:?}"));
+    let line = expected.get(place).or(output.get(place));
+    let row: usize = line.and_then(|line| line.split(',').next()?.parse().ok()).unwrap_or(0);
+    let text = row_text(input, row);
+    format!("row {row} differs: {text:?}\n  expected {}\n  but got  {}", shown(&expected), shown(&output))
+}
+
+fn row_text(input: &[u8], number: usize) -> String {
+    let mut rows = Rows::new(input);
+    let mut text = String::new();
+    for _ in 0..number {
+        match rows.next_row() {
+            Ok(Some(row)) => text = String::from_utf8_lossy(&row[..row.len().min(80)]).into_owned(),
+            _ => break,
+        }
+    }
+    text
+}

@@ -1,0 +1,389 @@
+use super::*;
+use crate::rows;
+
+/// Applies a row that is well formed.
+fn apply(book: &mut Book, row: &str) -> Result<Done, Refusal> {
+    book.apply(rows::read(row.as_bytes()).expect(row))
+}
+
+/// Applies rows that are carried out, one to a line.
+fn run(book: &mut Book, rows: &str) {
+    for row in rows.split_whitespace() {
+        if let Err(refusal) = apply(book, row) {
+            panic!("{row}: {refusal:?}");
+        }
+    }
+}
+
+fn book(rows: &str) -> Book {
+    let mut book = Book::new();
+    run(&mut book, rows);
+    book
+}
+
+/// The number that a row is refused with; the book must stay as it is.
+fn refused(book: &mut Book, row: &str) -> u64 {
+    let before = book.clone();
+    let refusal = apply(book, row).expect_err(row);
+    assert!(*book == before, "{row} changed the book");
+    refusal.number()
+}
+
+fn session(book: &mut Book, row: &str) -> Session {
+    match apply(book, row) {
+        Ok(Done::Settled(session)) => *session,
+        other => panic!("{row}: {other:?}"),
+    }
+}
+
+/// An array with these first places and 0 in the others.
+fn first(places: &[i64]) -> [i64; ACCOUNTS] {
+    std::array::from_fn(|account| places.get(account).copied().unwrap_or(0))
+}
+
+const CALL: &str = "L,GAZR-3.23M150323CA17000,100,5";
+
+// 01, "Values and splits to prove".
+
+#[test]
+fn half_of_five() {
+    for (kind, half) in [("CA", 3), ("PA", 2)] {
+        let mut book = book(&format!("L,GAZR-3.23M150323{kind}17000,100,0 T,0,1,2,5,0 M,0,0,1700000,100000"));
+        let sign = if kind == "CA" { 1 } else { -1 };
+        assert_eq!(session(&mut book, "V").futures, [(0, 1, sign * half), (0, 2, -sign * half)]);
+    }
+}
+
+#[test]
+fn splits() {
+    assert_eq!(assign(3, &first(&[2, 2, 2])), first(&[1, 1, 1]));
+    assert_eq!(assign(2, &first(&[1, 1, 1])), first(&[1, 1, 0]));
+    // Leftovers don't all go to account 0: 7 × 2, 3, 5 / 10 is 1.4, 2.1, 3.5.
+    assert_eq!(assign(7, &first(&[2, 3, 5])), first(&[1, 2, 4]));
+    // 3 × 1, 2, 2 / 5 is 0.6, 1.2, 1.2 and 4 × 1, 2, 2 / 5 is 0.8, 1.6, 1.6.
+    assert_eq!(assign(3, &first(&[1, 2, 2])), first(&[1, 1, 1]));
+    assert_eq!(assign(4, &first(&[1, 2, 2])), first(&[1, 2, 1]));
+    assert_eq!(assign(0, &first(&[1, 2, 2])), first(&[]));
+    assert_eq!(assign(0, &first(&[])), first(&[]));
+}
+
+#[test]
+fn shares_add_up_and_nobody_gets_more_than_he_is_short() {
+    let mut random = crate::random::Random::new(1);
+    for _ in 0..2_000 {
+        let writers = random.between(1, 63) as usize;
+        let largest = random.pick(&[1, 2, 3, 10, 100_000]);
+        let mut short = [0; ACCOUNTS];
+        for short in short.iter_mut().take(writers) {
+            *short = random.between(0, largest) as i64;
+        }
+        let all: i64 = short.iter().sum();
+        let exercised = random.between(0, all as u64) as i64;
+        let assigned = assign(exercised, &short);
+        assert_eq!(assigned.iter().sum::<i64>(), exercised);
+        assert!((0..ACCOUNTS).all(|account| (0..=short[account]).contains(&assigned[account])));
+    }
+}
+
+#[test]
+fn limits() {
+    let mut book = book(CALL);
+    run(&mut book, "T,0,1,2,1000,0");
+    assert_eq!(refused(&mut book, "T,0,1,2,1001,0"), 6);
+    assert_eq!(refused(&mut book, "T,0,1,2,0,0"), 6);
+    run(&mut book, &"T,0,1,2,1000,0 ".repeat(99));
+    assert_eq!(book.series[0].positions[1], 100_000);
+    assert_eq!(book.series[0].positions[2], -100_000);
+    assert_eq!(refused(&mut book, "T,0,1,3,1,0"), 8);
+    assert_eq!(refused(&mut book, "T,0,3,2,1,0"), 8);
+    run(&mut book, "T,0,2,1,1,0");
+    run(&mut book, "T,0,1,2,1,0");
+}
+
+// 01, the false friends.
+
+#[test]
+fn the_evening_price_is_valued_with_todays_coefficient() {
+    let mut book = book(&format!("{CALL} T,0,0,1,1,100 M,0,1000,0,100000 V M,0,1000,0,200000"));
+    // n × V(p) − B × V(b) is 0 with one c; yesterday's c would leave 1000.
+    assert_eq!(session(&mut book, "V").money, first(&[]));
+}
+
+#[test]
+fn the_intraday_price_counts_on_the_last_day() {
+    let mut book = book("L,GAZR-3.23M150323CA17000,100,0 T,0,0,1,1,100 M,0,300,0,100000");
+    assert_eq!(session(&mut book, "I").money, first(&[200, -200]));
+    run(&mut book, "M,0,300,0,100000");
+    // VM is 0 × V(300) − V(100).
+    assert_eq!(session(&mut book, "V").money, first(&[-300, 300]));
+    assert_eq!(book.cash, first(&[-100, 100]));
+}
+
+// The refusals of each event, and their order.
+
+#[test]
+fn list_refusals() {
+    let mut book = book("V V V");
+    for row in [
+        "L,GAZR-3.23M150323CA17000,0,5",
+        "L,GAZR-3.23M150323CA17000,10001,5",
+        "L,GAZR-3.23M150323CA17000,100,2",
+        "L,GAZR-3.23M150323CA17000,100,1000",
+        "L,GAZR-3.23M150323CA17000,999999999999999999,5",
+        "L,GAZR-3.23M150323CA17000,100,999999999999999999",
+    ] {
+        assert_eq!(refused(&mut book, row), 10);
+    }
+    let terms =
+        |strike| Event::List { option: OptionType::Put, category: Category::European, strike, tick: 1, last_day: 9 };
+    assert_eq!(book.apply(terms(0)), Err(Refusal::Terms));
+    assert_eq!(book.apply(terms(10_000_001)), Err(Refusal::Terms));
+    assert_eq!(book.apply(terms(10_000_000)), Ok(Done::Listed(0)));
+    assert_eq!(apply(&mut book, "L,GAZR-3.23M150323CA17000,1,3"), Ok(Done::Listed(1)));
+    assert_eq!(apply(&mut book, "L,GAZR-3.23M150323CA17000,10000,999"), Ok(Done::Listed(2)));
+    run(&mut book, &format!("{CALL} ").repeat(5));
+    assert_eq!(refused(&mut book, CALL), 11);
+    assert_eq!(refused(&mut book, "L,GAZR-3.23M150323CA17000,0,5"), 10);
+}
+
+#[test]
+fn numbers_of_expired_series_are_not_given_out_again() {
+    let mut book = book("L,GAZR-3.23M150323CA17000,100,0 M,0,0,0,100000 V");
+    assert_eq!(apply(&mut book, CALL), Ok(Done::Listed(1)));
+    run(&mut book, &format!("{CALL} ").repeat(6));
+    assert_eq!(refused(&mut book, CALL), 11);
+}
+
+#[test]
+fn trade_refusals_in_their_order() {
+    let mut book = book(&format!("L,GAZR-3.23M150323CA17000,100,0 {CALL} M,0,0,0,100000 M,1,0,0,100000 V"));
+    // Each row mends the first fault of the one before.
+    for (row, number) in [
+        ("T,2,64,64,1001,1000050", 2),
+        ("T,255,64,64,1001,1000050", 2),
+        ("T,300,64,64,1001,1000050", 2),
+        ("T,0,64,64,1001,1000050", 3),
+        ("T,1,64,64,1001,1000050", 4),
+        ("T,1,300,1,1001,1000050", 4),
+        ("T,1,1,64,1001,1000050", 4),
+        ("T,1,1,1,1001,1000050", 5),
+        ("T,1,1,2,1001,1000050", 6),
+        ("T,1,1,2,1000,1000050", 7),
+        ("T,1,1,2,1000,1000100", 7),
+        ("T,1,1,2,1000,150", 7),
+    ] {
+        assert_eq!(refused(&mut book, row), number, "{row}");
+    }
+    run(&mut book, &"T,1,1,2,1000,1000000 ".repeat(100));
+    run(&mut book, &"T,1,3,4,1,0 ".repeat(156));
+    assert_eq!(refused(&mut book, "T,1,1,2,1,50"), 7);
+    assert_eq!(refused(&mut book, "T,1,1,2,1,0"), 8);
+    assert_eq!(refused(&mut book, "T,1,3,4,1,0"), 9);
+}
+
+#[test]
+fn the_blotter_is_one_for_all_series_and_free_again_each_day() {
+    let mut book = book(&format!("{CALL} {CALL}"));
+    run(&mut book, &"T,0,1,2,1,0 T,1,1,2,1,0 ".repeat(128));
+    assert_eq!(refused(&mut book, "T,0,1,2,1,0"), 9);
+    run(&mut book, "M,0,0,0,100000 M,1,0,0,100000 I");
+    assert_eq!(refused(&mut book, "T,1,1,2,1,0"), 9);
+    run(&mut book, "M,0,0,0,100000 M,1,0,0,100000 V");
+    run(&mut book, &"T,0,1,2,1,0 ".repeat(256));
+    assert_eq!(refused(&mut book, "T,0,1,2,1,0"), 9);
+}
+
+#[test]
+fn exercise_refusals_in_their_order() {
+    let mut book =
+        book("L,GAZR-3.23M150323CA17000,100,0 L,GAZR-3.23M150323CE17000,100,2 M,0,0,0,100000 M,1,0,0,100000 V");
+    run(&mut book, "T,1,1,2,5,0");
+    for (row, number) in [
+        ("X,2,64,6", 2),
+        ("X,0,64,6", 3),
+        ("X,1,64,6", 4),
+        ("X,1,1,6", 12),
+        ("X,1,1,0", 12),
+        ("X,1,2,1", 12),
+        ("D,2,64", 2),
+        ("D,0,64", 3),
+        ("D,1,64", 4),
+        ("D,1,1", 12),
+    ] {
+        assert_eq!(refused(&mut book, row), number, "{row}");
+    }
+    run(&mut book, "M,1,0,0,100000 V X,1,1,5 X,1,1,0 X,1,2,0 X,1,3,0 D,1,1 D,1,2 D,1,3");
+    assert_eq!(refused(&mut book, "X,1,1,6"), 13);
+    assert_eq!(refused(&mut book, "X,1,2,1"), 13);
+    assert_eq!(refused(&mut book, "X,1,3,999999999999999999"), 13);
+}
+
+#[test]
+fn mark_refusals_in_their_order() {
+    let mut book =
+        book("L,GAZR-3.23M150323CA17000,100,0 L,GAZR-3.23M150323CA17000,1,9 L,GAZR-3.23M150323CA17000,10000,9");
+    run(&mut book, "M,0,0,0,100000 M,1,0,0,100000 M,2,0,0,100000 V");
+    for (row, number) in [
+        ("M,3,1000001,0,0", 2),
+        ("M,0,1000001,0,0", 3),
+        ("M,1,1000001,0,0", 7),
+        ("M,1,0,10000001,0", 7),
+        ("M,1,0,0,0", 14),
+        ("M,1,0,0,200000001", 14),
+        ("M,1,0,0,999999999999999999", 14),
+        // c is 100 × W here.
+        ("M,1,0,0,2000001", 14),
+        // c is W / 100 here.
+        ("M,2,0,0,49", 14),
+    ] {
+        assert_eq!(refused(&mut book, row), number, "{row}");
+    }
+    run(&mut book, "M,1,1000000,10000000,2000000 M,1,7,0,1 M,2,0,0,50 M,2,0,0,200000000");
+    // A mark's option price needs to be no multiple of R.
+    run(&mut book, "M,2,1,0,100000");
+}
+
+#[test]
+fn session_refusals_in_their_order() {
+    let mut book = book(&format!("{CALL} {CALL} {CALL} M,0,0,0,100000"));
+    assert_eq!(apply(&mut book, "I"), Err(Refusal::NoMark(1)));
+    assert_eq!(apply(&mut book, "V"), Err(Refusal::NoMark(1)));
+    run(&mut book, "M,1,0,0,100000");
+    assert_eq!(apply(&mut book, "I"), Err(Refusal::NoMark(2)));
+    run(&mut book, "M,2,0,0,100000 I");
+    assert_eq!(refused(&mut book, "I"), 15);
+    // The intraday session has used the marks.
+    assert_eq!(apply(&mut book, "V"), Err(Refusal::NoMark(0)));
+    run(&mut book, "M,0,0,0,100000 M,1,0,0,100000 M,2,0,0,100000");
+    assert_eq!(refused(&mut book, "I"), 15);
+    run(&mut book, "V");
+    assert_eq!(apply(&mut book, "I"), Err(Refusal::NoMark(0)));
+}
+
+#[test]
+fn sessions_without_live_series() {
+    let mut book = Book::new();
+    assert_eq!(session(&mut book, "I"), Session { money: [0; ACCOUNTS], futures: vec![] });
+    assert_eq!(refused(&mut book, "I"), 15);
+    assert_eq!(session(&mut book, "V"), Session { money: [0; ACCOUNTS], futures: vec![] });
+    run(&mut book, "I");
+    assert_eq!(book.day, 1);
+    // An expired series needs no mark.
+    run(&mut book, "L,GAZR-3.23M150323CA17000,100,1 M,0,0,0,100000 V I V");
+    assert_eq!(book.day, 3);
+}
+
+#[test]
+fn after_the_evening_of_day_999() {
+    let mut book = book(&"V ".repeat(999));
+    assert_eq!(book.day, 999);
+    run(&mut book, "L,GAZR-3.23M150323CA17000,100,999 T,0,1,2,3,0 M,0,0,0,100000 I M,0,0,0,100000 V");
+    assert_eq!(book.day, 1000);
+    for row in
+        [CALL, "L,GAZR-3.23M150323CA17000,0,0", "T,0,1,2,3,0", "T,9,1,1,0,0", "X,0,1,1", "D,0,1", "M,0,0,0,0", "I", "V"]
+    {
+        assert_eq!(refused(&mut book, row), 1, "{row}");
+    }
+}
+
+// The sessions.
+
+#[test]
+fn the_first_evening_knows_no_evening_before() {
+    let mut book = book(&format!("{CALL} T,0,0,1,10,500 M,0,700,0,100000"));
+    assert_eq!(session(&mut book, "V").money, first(&[2000, -2000]));
+    run(&mut book, "T,0,2,0,4,600 M,0,650,0,100000");
+    // 6 × 650 − 10 × 700 + 4 × 600; −10 × 650 + 10 × 700; 4 × 650 − 4 × 600.
+    assert_eq!(session(&mut book, "V").money, first(&[-700, 500, 200]));
+}
+
+#[test]
+fn an_intraday_session_changes_no_evening_cash() {
+    let day = |intraday: &str| {
+        let mut book = book(&format!("{CALL} T,0,0,1,10,500 {intraday} T,0,2,0,4,600 M,0,650,0,100000 V"));
+        run(&mut book, "M,0,1,1,3333 V");
+        book.cash
+    };
+    assert_eq!(day("M,0,900,0,123456 I"), day(""));
+}
+
+#[test]
+fn a_series_listed_after_the_intraday_session_has_paid_nothing() {
+    let mut book = book(&format!(
+        "{CALL} T,0,0,1,1,100 M,0,300,0,100000 I {CALL} T,1,0,1,1,100 M,0,300,0,100000 M,1,500,0,100000"
+    ));
+    assert_eq!(session(&mut book, "V").money, first(&[400, -400]));
+}
+
+#[test]
+fn a_later_mark_replaces_an_earlier_one() {
+    let mut book = book(&format!("{CALL} T,0,0,1,1,100 M,0,300,0,100000 M,0,400,0,100000"));
+    assert_eq!(session(&mut book, "V").money, first(&[300, -300]));
+}
+
+#[test]
+fn american_exercise_before_the_last_day() {
+    let mut book = book(&format!("{CALL} T,0,0,1,10,0 X,0,0,9 X,0,0,4 M,0,300,0,100000"));
+    let session = session(&mut book, "V");
+    // n is the position after exercise.
+    assert_eq!(session.money, first(&[6 * 300, -6 * 300]));
+    assert_eq!(session.futures, [(0, 0, 4), (0, 1, -4)]);
+    assert_eq!(book.series[0].positions, first(&[6, -6]));
+    // Requests last a day.
+    run(&mut book, "M,0,300,0,100000");
+    assert_eq!(self::session(&mut book, "V").futures, []);
+}
+
+#[test]
+fn a_request_stays_when_the_position_shrinks() {
+    let mut book = book(&format!("{CALL} T,0,0,1,10,0 X,0,0,9 T,0,2,0,7,0 M,0,300,0,100000"));
+    assert_eq!(session(&mut book, "V").futures, [(0, 0, 3), (0, 1, -3)]);
+    // A position gone short exercises nothing.
+    let mut book = self::book(&format!("{CALL} T,0,0,1,10,0 X,0,0,9 T,0,2,0,17,0 M,0,300,0,100000"));
+    assert_eq!(session(&mut book, "V").futures, []);
+}
+
+#[test]
+fn in_at_and_out_of_the_money() {
+    // Of 5 contracts: strike 17000, futures price below, at and above it.
+    for (kind, futures, exercised) in [
+        ("CA", 1_699_999, 0),
+        ("CA", 1_700_000, 3),
+        ("CA", 1_700_001, 5),
+        ("PE", 1_699_999, -5),
+        ("PE", 1_700_000, -2),
+        ("PE", 1_700_001, 0),
+    ] {
+        let mut book = book(&format!("L,GAZR-3.23M150323{kind}17000,100,0 T,0,0,1,5,0 M,0,0,{futures},100000 V"));
+        assert_eq!(book.series[0].futures, first(&[exercised, -exercised]), "{kind} {futures}");
+        assert_eq!(book.series[0].positions, first(&[]));
+        assert_eq!(refused(&mut book, "X,0,0,0"), 3);
+    }
+}
+
+#[test]
+fn requests_and_declines_on_the_last_day() {
+    // Of 5 calls at the money 3 are exercised without a word.
+    for (rows, exercised) in [
+        ("", 3),
+        ("X,0,0,2", 3),
+        ("X,0,0,4", 4),
+        ("X,0,0,4 X,0,0,0", 3),
+        ("D,0,0", 0),
+        ("X,0,0,4 D,0,0", 0),
+        ("D,0,0 X,0,0,4", 4),
+        ("D,0,0 X,0,0,0", 3),
+        ("D,0,1", 3),
+    ] {
+        let mut book = book(&format!("L,GAZR-3.23M150323CE17000,100,0 T,0,0,1,5,0 {rows} M,0,0,1700000,100000"));
+        session(&mut book, "V");
+        assert_eq!(book.series[0].futures, first(&[exercised, -exercised]), "{rows}");
+    }
+}
+
+#[test]
+fn futures_by_series_and_account() {
+    let mut book = book(&format!("{CALL} L,GAZR-3.23M150323PA17000,100,5 T,0,5,0,2,0 T,1,1,9,2,0 X,0,5,2 X,1,1,1"));
+    run(&mut book, "M,0,0,0,100000 M,1,0,0,100000");
+    assert_eq!(session(&mut book, "V").futures, [(0, 0, -2), (0, 5, 2), (1, 1, -1), (1, 9, 1)]);
+}

@@ -1,0 +1,54 @@
+//! The clearing book for futures-style options once more, in plain Rust.
+//!
+//! Written from document 01 and never from the proved sources, so that these have a second hand to be compared with,
+//! and a speed to be measured against. Comments name the section of 01 that a piece of code follows.
+
+pub mod book;
+pub mod codes;
+pub mod load;
+pub mod market;
+pub mod output;
+pub mod random;
+pub mod refusal;
+pub mod rows;
+pub mod value;
+
+use std::io::{self, Read, Write};
+
+use book::Book;
+use rows::Rows;
+
+/// Output is handed on in pieces of about this size.
+const PIECE: usize = 1 << 16;
+
+/// Runs the rows of `input` through an empty book and writes the lines of their answers to `output`.
+///
+/// A read error ends the run after the rows that were read.
+pub fn replay(input: impl Read, mut output: impl Write) -> io::Result<()> {
+    let mut rows = Rows::new(input);
+    let mut book = Book::new();
+    let mut lines = Vec::with_capacity(2 * PIECE);
+    lines.extend_from_slice(output::HEADER);
+    let mut number = 0;
+    let end = loop {
+        match rows.next_row() {
+            Ok(Some(row)) => {
+                number += 1;
+                let answer = rows::read(row).and_then(|event| book.apply(event));
+                output::write_lines(&mut lines, number, &answer);
+            }
+            Ok(None) => break Ok(()),
+            Err(error) => break Err(error),
+        }
+        if lines.len() >= PIECE {
+            output.write_all(&lines)?;
+            lines.clear();
+        }
+    };
+    output.write_all(&lines)?;
+    output.flush()?;
+    end
+}
+
+/// The markets that the gate compares.
+pub const GATE_SEEDS: std::ops::Range<u64> = 0..1000;

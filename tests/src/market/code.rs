@@ -1,0 +1,123 @@
+//! Contract codes, sound and broken.
+
+use crate::book::{Category, OptionType};
+use crate::codes::{self, Date, Terms};
+use crate::random::Random;
+
+/// Mostly a sound code.
+pub fn some(random: &mut Random) -> String {
+    if random.one_in(4) {
+        broken(random)
+    } else {
+        sound(random)
+    }
+}
+
+fn sound(random: &mut Random) -> String {
+    let futures_code = format!("{}-{}.{:02}", letters(random), random.between(1, 12), random.below(100));
+    let terms = Terms {
+        futures_code: futures_code.as_bytes(),
+        date: date(random),
+        option: random.pick(&[OptionType::Call, OptionType::Put]),
+        category: random.pick(&[Category::American, Category::American, Category::European]),
+        strike: strike(random),
+    };
+    codes::write(&terms).expect("these terms have a code")
+}
+
+/// A code put together of parts, a few of which are broken.
+fn broken(random: &mut Random) -> String {
+    let mut part =
+        |sound: String, broken: &[&str]| if random.one_in(10) { random.pick(broken).to_string() } else { sound };
+    let letters = part("SBRF".into(), &["", "A", "ABCDEFGH", "ABCDEFGHI", "sbrf", "SB1F", "SBR ", "SBRF-"]);
+    let hyphen = part("-".into(), &["", "--", ".", " "]);
+    let month = part("6".into(), &["", "0", "00", "01", "06", "1", "9", "10", "12", "13", "20", "61", "123"]);
+    let point = part(".".into(), &["", "-", ".."]);
+    let year = part("23".into(), &["00", "99", "3", "", "2a", "023", "2023"]);
+    let m = part("M".into(), &["", "m", "MM", "N"]);
+    let date = part(
+        "150623".into(),
+        &[
+            "000123", "010123", "310123", "320123", "280223", "290223", "290200", "290224", "290296", "300224",
+            "310323", "320323", "300423", "310423", "310523", "310623", "310723", "310823", "310923", "311023",
+            "311123", "311223", "321223", "010023", "011323", "999999", "15062", "1506230", "15O623", "",
+        ],
+    );
+    let option = part("C".into(), &["P", "c", "", "A", "CP", "X"]);
+    let category = part("A".into(), &["E", "a", "", "C", "AE", "M"]);
+    let strike = part(
+        "17000".into(),
+        &[
+            "",
+            "0",
+            "0.01",
+            "0.1",
+            "0.5",
+            "0.50",
+            "0.0",
+            "0.00",
+            "00",
+            "01",
+            "00.5",
+            "1.",
+            "1.0",
+            "1.00",
+            "1.05",
+            "1.5",
+            "1.50",
+            "1.234",
+            ".5",
+            ".",
+            "99999.99",
+            "100000",
+            "100000.0",
+            "100000.01",
+            "100000.1",
+            "100001",
+            "1000000",
+            "4294967297",
+            "18446744073709551617",
+            "184467440737095516160.05",
+            " 17000",
+            "17000 ",
+            "-1",
+            "+1",
+            "1e3",
+            "1 000",
+            "17\n",
+            "1\r7",
+        ],
+    );
+    format!("{letters}{hyphen}{month}{point}{year}{m}{date}{option}{category}{strike}")
+}
+
+fn letters(random: &mut Random) -> String {
+    let count = random.between(1, 8);
+    (0..count).map(|_| random.between(b'A'.into(), b'Z'.into()) as u8 as char).collect()
+}
+
+fn date(random: &mut Random) -> Date {
+    let month = random.between(1, 12);
+    let longest = match month {
+        2 => 28,
+        4 | 6 | 9 | 11 => 30,
+        _ => 31,
+    };
+    if random.one_in(20) {
+        return Date { day: 29, month: 2, year: 4 * random.below(25) };
+    }
+    let day = random.between(1, longest);
+    Date { day: random.pick(&[1, day, longest]), month, year: random.below(100) }
+}
+
+fn strike(random: &mut Random) -> u64 {
+    let scale = random.pick(&[10, 1_000, 100_000, 10_000_000]);
+    let strike = random.between(1, scale);
+    match random.below(4) {
+        0 => strike,
+        1 => strike.div_ceil(10) * 10,
+        2 => strike.div_ceil(100) * 100,
+        _ => random.pick(&[1, 99, 100, 9_999_999, 10_000_000, strike]),
+    }
+    .min(10_000_000)
+}

@@ -1,0 +1,379 @@
+//! 01, "Rows": cutting the input into rows, and reading a row into an event.
+
+use std::io::{self, ErrorKind, Read};
+
+use crate::book::Event;
+use crate::codes;
+use crate::refusal::Refusal;
+
+/// A row has at most this many bytes, its CRLF not counted.
+pub const LONGEST_ROW: usize = 256;
+
+/// A number outside the code has at most this many digits.
+const LONGEST_NUMBER: usize = 18;
+
+const BUFFER: usize = 1 << 16;
+
+/// The rows of an input of any size, in constant memory. Rows are cut at CRLF and nowhere else.
+pub struct Rows<R> {
+    input: R,
+    buffer: Box<[u8]>,
+    /// The part of the buffer that is read and not yet handed out.
+    start: usize,
+    end: usize,
+}
+
+impl<R: Read> Rows<R> {
+    pub fn new(input: R) -> Self {
+        Rows { input, buffer: vec![0; BUFFER].into_boxed_slice(), start: 0, end: 0 }
+    }
+
+    /// The next row without its CRLF. A row that outgrows the buffer loses bytes at its front, but never so many that
+    /// what is left would pass for a row.
+    pub fn next_row(&mut self) -> io::Result<Option<&[u8]>> {
+        let mut searched = 0;
+        loop {
+            let waiting = &self.buffer[self.start..self.end];
+            if let Some(found) = find_crlf(&waiting[searched..]) {
+                let row = self.start..self.start + searched + found;
+                self.start = row.end + 2;
+                return Ok(Some(&self.buffer[row]));
+            }
+            // The last byte may be the CR of a CRLF.
+            searched = waiting.len().saturating_sub(1);
+            if waiting.len() == BUFFER {
+                self.start = self.end - (LONGEST_ROW + 2);
+                searched = LONGEST_ROW + 1;
+            }
+            if !self.fill()? {
+                let row = self.start..self.end;
+                self.start = self.end;
+                return Ok((!row.is_empty()).then(|| &self.buffer[row]));
+            }
+        }
+    }
+
+    /// Moves what is waiting to the buffer's front and reads more behind it; false at the end of the input.
+    fn fill(&mut self) -> io::Result<bool> {
+        self.buffer.copy_within(self.start..self.end, 0);
+        self.end -= self.start;
+        self.start = 0;
+        loop {
+            match self.input.read(&mut self.buffer[self.end..]) {
+                Ok(count) => {
+                    self.end += count;
+                    return Ok(count > 0);
+                }
+                Err(error) if error.kind() == ErrorKind::Interrupted => {}
+                Err(error) => return Err(error),
+            }
+        }
+    }
+}
+
+fn find_crlf(bytes: &[u8]) -> Option<usize> {
+    bytes.windows(2).position(|pair| pair == b"\r\n")
+}
+
+/// Reads one row. Letter, fields and digits are tested first (20), then the code (17, 18, 19).
+pub fn read(row: &[u8]) -> Result<Event, Refusal> {
+    if row.len() > LONGEST_ROW {
+        return Err(Refusal::Row);
+    }
+    match row {
+        [b'T', b',', rest @ ..] => trade(rest).ok_or(Refusal::Row),
+        [b'M', b',', rest @ ..] => mark(rest).ok_or(Refusal::Row),
+        [b'X', b',', rest @ ..] => exercise(rest).ok_or(Refusal::Row),
+        [b'D', b',', rest @ ..] => decline(rest).ok_or(Refusal::Row),
+        [b'L', b',', rest @ ..] => list(rest),
+        b"I" => Ok(Event::Intraday),
+        b"V" => Ok(Event::Evening),
+        _ => Err(Refusal::Row),
+    }
+}
+
+fn list(rest: &[u8]) -> Result<Event, Refusal> {
+    let (code, tick, last_day) = list_fields(rest).ok_or(Refusal::Row)?;
+    let terms = codes::read(code)?;
+    Ok(Event::List { option: terms.option, category: terms.category, strike: terms.strike, tick, last_day })
+}
+
+fn list_fields(rest: &[u8]) -> Option<(&[u8], u64, u64)> {
+    let [code, tick, last_day] = fields(rest)?;
+    // Rows are unquoted: a double quote belongs to no field.
+    if code.contains(&b'"') {
+        return None;
+    }
+    Some((code, number(tick)?, number(last_day)?))
+}
+
+fn trade(rest: &[u8]) -> Option<Event> {
+    let [series, buyer, seller, quantity, price] = fields(rest)?;
+    Some(Event::Trade {
+        series: byte(series)?,
+        buyer: byte(buyer)?,
+        seller: byte(seller)?,
+        quantity: number(quantity)?,
+        price: number(price)?,
+    })
+}
+
+fn exercise(rest: &[u8]) -> Option<Event> {
+    let [series, account, quantity] = fields(rest)?;
+    Some(Event::Exercise { series: byte(series)?, account: byte(account)?, quantity: number(quantity)? })
+}
+
+fn decline(rest: &[u8]) -> Option<Event> {
+    let [series, account] = fields(rest)?;
+    Some(Event::Decline { series: byte(series)?, account: byte(account)? })
+}
+
+fn mark(rest: &[u8]) -> Option<Event> {
+    let [series, option, futures, tick_value] = fields(rest)?;
+    Some(Event::Mark {
+        series: byte(series)?,
+        option: number(option)?,
+        futures: number(futures)?,
+        tick_value: number(tick_value)?,
+    })
+}
+
+/// Exactly N fields between commas.
+fn fields<const N: usize>(row: &[u8]) -> Option<[&[u8]; N]> {
+    let mut parts = row.split(|&byte| byte == b',');
+    let mut fields = [&row[..0]; N];
+    for field in &mut fields {
+        *field = parts.next()?;
+    }
+    parts.next().is_none().then_some(fields)
+}
+
+/// A decimal number of 1 to 18 digits without leading zeros.
+fn number(field: &[u8]) -> Option<u64> {
+    if field.is_empty() || field.len() > LONGEST_NUMBER || (field[0] == b'0' && field.len() > 1) {
+        return None;
+    }
+    let mut number = 0;
+    for &byte in field {
+        if !byte.is_ascii_digit() {
+            return None;
+        }
+        number = 10 * number + u64::from(byte - b'0');
+    }
+    Some(number)
+}
+
+/// A series or an account: a number too large for its byte becomes the largest that a byte holds.
+fn byte(field: &[u8]) -> Option<u8> {
+    Some(number(field)?.min(255) as u8)
+}
+
+#[cfg(test)]
+mod tests {
+    use super::*;
+    use crate::book::{Category, OptionType};
+
+    fn refusal(row: &[u8]) -> u64 {
+        read(row).expect_err(&String::from_utf8_lossy(row)).number()
+    }
+
+    #[test]
+    fn the_seven_kinds() {
+        assert_eq!(
+            read(b"L,GAZR-3.23M150323PE17000,100,1"),
+            Ok(Event::List {
+                option: OptionType::Put,
+                category: Category::European,
+                strike: 1_700_000,
+                tick: 100,
+                last_day: 1
+            })
+        );
+        assert_eq!(
+            read(b"T,0,1,2,10,15000"),
+            Ok(Event::Trade { series: 0, buyer: 1, seller: 2, quantity: 10, price: 15_000 })
+        );
+        assert_eq!(read(b"X,7,63,0"), Ok(Event::Exercise { series: 7, account: 63, quantity: 0 }));
+        assert_eq!(read(b"D,3,4"), Ok(Event::Decline { series: 3, account: 4 }));
+        assert_eq!(
+            read(b"M,0,16000,1702000,100000"),
+            Ok(Event::Mark { series: 0, option: 16_000, futures: 1_702_000, tick_value: 100_000 })
+        );
+        assert_eq!(read(b"I"), Ok(Event::Intraday));
+        assert_eq!(read(b"V"), Ok(Event::Evening));
+    }
+
+    #[test]
+    fn rows_that_are_none() {
+        for row in [
+            "",
+            " ",
+            ",",
+            "I,",
+            "I ",
+            " I",
+            "i",
+            "v",
+            "V,0",
+            "IV",
+            "I\r",
+            "I\n",
+            "\nI",
+            "A",
+            "Q,1",
+            "T",
+            "T,",
+            "L",
+            "X",
+            "D",
+            "M",
+            "T,0,1,2,10",
+            "T,0,1,2,10,15000,",
+            "T,0,1,2,10,15000,0",
+            "T,0,1,2,,15000",
+            "T,,1,2,10,15000",
+            "t,0,1,2,10,15000",
+            "T,0,1,2,010,15000",
+            "T,00,1,2,10,15000",
+            "T,0,1,2,10,-1",
+            "T,0,1,2,10,+1",
+            "T,0,1,2,10,1.0",
+            "T,0,1,2,10, 1",
+            "T,0,1,2,10,1\r",
+            "T,0,1,2,10,1\n",
+            "T;0;1;2;10;1",
+            "T,\"0\",1,2,10,1",
+            "\"T\",0,1,2,10,1",
+            "TT,0,1,2,10,1",
+            "T,0,1,2,10,1000000000000000000",
+            "X,0,1",
+            "X,0,1,2,3",
+            "D,0",
+            "D,0,1,2",
+            "M,0,1,2",
+            "M,0,1,2,3,4",
+            "L,GAZR-3.23M150323CA17000",
+            "L,GAZR-3.23M150323CA17000,100",
+            "L,GAZR-3.23M150323CA17000,100,1,",
+            "L,GAZR-3.23M150323CA17000,,1",
+            "L,GAZR-3.23M150323CA17000,100,01",
+            "L,\"GAZR-3.23M150323CA17000\",100,1",
+            "L,GAZR-3.23M150323CA17,000,100,1",
+            "L,GAZR\"-3.23M150323CA17000,100,1",
+        ] {
+            assert_eq!(refusal(row.as_bytes()), 20, "{row:?}");
+        }
+        assert_eq!(refusal(b"T,0,1,2,10,\xff"), 20);
+        assert_eq!(refusal(b"\xef\xbb\xbfI"), 20);
+    }
+
+    #[test]
+    fn the_row_comes_before_the_code() {
+        assert_eq!(refusal(b"L,nonsense,0100,1"), 20);
+        assert_eq!(refusal(b"L,nonsense,100,1"), 17);
+        assert_eq!(refusal(b"L,,100,1"), 17);
+        assert_eq!(refusal(b"L,GAZR-3.23M150323CA17000\n,100,1"), 17);
+        assert_eq!(refusal(b"L,GAZR-3.23\xffM150323CA17000,100,1"), 17);
+        assert_eq!(refusal(b"L,GAZR-3.23M310223CA0,100,1"), 18);
+        assert_eq!(refusal(b"L,GAZR-3.23M150323CA0,100,1"), 19);
+    }
+
+    #[test]
+    fn eighteen_digits_and_no_more() {
+        let exercise = |digits: &str| read(format!("X,0,0,{digits}").as_bytes());
+        assert_eq!(
+            exercise("999999999999999999"),
+            Ok(Event::Exercise { series: 0, account: 0, quantity: 999_999_999_999_999_999 })
+        );
+        assert_eq!(exercise("1000000000000000000"), Err(Refusal::Row));
+        assert_eq!(exercise("0000000000000000001"), Err(Refusal::Row));
+    }
+
+    #[test]
+    fn a_number_too_large_becomes_the_largest_of_its_place() {
+        assert_eq!(read(b"D,300,256"), Ok(Event::Decline { series: 255, account: 255 }));
+        assert_eq!(read(b"D,999999999999999999,255"), Ok(Event::Decline { series: 255, account: 255 }));
+        assert_eq!(refusal(b"D,0,1000000000000000000"), 20);
+    }
+
+    #[test]
+    fn at_most_256_bytes() {
+        let list = |length: usize| {
+            let (front, back) = ("L,GAZR-3.23M150323CA", ",100,1");
+            let row = format!("{front}{}{back}", "9".repeat(length - front.len() - back.len()));
+            assert_eq!(row.len(), length);
+            refusal(row.as_bytes())
+        };
+        assert_eq!(list(256), 19);
+        assert_eq!(list(257), 20);
+    }
+
+    /// Hands out pieces of the given size.
+    struct Pieces<'a>(&'a [u8], usize);
+
+    impl Read for Pieces<'_> {
+        fn read(&mut self, buffer: &mut [u8]) -> io::Result<usize> {
+            let count = self.1.min(buffer.len()).min(self.0.len());
+            let (piece, rest) = self.0.split_at(count);
+            buffer[..count].copy_from_slice(piece);
+            self.0 = rest;
+            Ok(count)
+        }
+    }
+
+    fn cut(input: &[u8], size: usize) -> Vec<Vec<u8>> {
+        let mut rows = Rows::new(Pieces(input, size));
+        let mut all = Vec::new();
+        while let Some(row) = rows.next_row().unwrap() {
+            all.push(row.to_vec());
+        }
+        all
+    }
+
+    #[test]
+    fn cutting() {
+        for (input, rows) in [
+            ("", vec![]),
+            ("I", vec!["I"]),
+            ("I\r\n", vec!["I"]),
+            ("I\r\nV", vec!["I", "V"]),
+            ("\r\n", vec![""]),
+            ("\r\n\r\nI\r\n\r\n", vec!["", "", "I", ""]),
+            ("I\r", vec!["I\r"]),
+            ("I\n", vec!["I\n"]),
+            ("I\nV\r\n", vec!["I\nV"]),
+            ("I\rV\r\n", vec!["I\rV"]),
+            ("I\r\r\nV", vec!["I\r", "V"]),
+            ("I\n\r\nV", vec!["I\n", "V"]),
+            ("I\r\n\nV", vec!["I", "\nV"]),
+            ("I\r\n\r", vec!["I", "\r"]),
+            ("\n\r", vec!["\n\r"]),
+        ] {
+            for size in 1..=5 {
+                assert_eq!(
+                    cut(input.as_bytes(), size),
+                    rows.iter().map(|row| row.as_bytes()).collect::<Vec<_>>(),
+                    "{input:?}"
+                );
+            }
+        }
+    }
+
+    #[test]
+    fn a_row_longer_than_the_buffer_is_one_row() {
+        for length in [BUFFER - 2, BUFFER - 1, BUFFER, BUFFER + 1, 2 * BUFFER - 300, 3 * BUFFER] {
+            let mut input = b"I\r\n".to_vec();
+            input.extend(vec![b'\r'; length]);
+            input.extend_from_slice(b"\r\nV\r\n");
+            for size in [1, 7, BUFFER - 1, BUFFER, usize::MAX] {
+                let rows = cut(&input, size);
+                assert_eq!(rows.len(), 3);
+                assert_eq!(refusal(&rows[1]), 20);
+                assert_eq!(rows[2], b"V");
+            }
+            let rows = cut(&input[..input.len() - 5], 1000);
+            assert_eq!(rows.len(), 2);
+            assert_eq!(refusal(&rows[1]), 20);
+        }
+    }
+}

@@ -1,0 +1,253 @@
+//! The markets of the gate's seeds, and the one of the full size, reach what they are meant to reach.
+
+use std::collections::BTreeMap;
+
+use second::book::{Book, Category, Done, Event, OptionType, LAST_DAY, POSITION_LIMIT};
+use second::market::market;
+use second::refusal::Refusal;
+use second::rows::{self, Rows};
+use second::GATE_SEEDS;
+
+/// How often each thing has happened.
+#[derive(Default)]
+struct Census {
+    counts: BTreeMap<String, u64>,
+    rows: u64,
+    carried_out: u64,
+}
+
+impl Census {
+    fn count(&mut self, what: impl Into<String>) {
+        *self.counts.entry(what.into()).or_default() += 1;
+    }
+
+    fn count_if(&mut self, condition: bool, what: &str) {
+        if condition {
+            self.count(what);
+        }
+    }
+
+    fn take(&mut self, input: &[u8]) {
+        self.count_if(input.is_empty(), "empty input");
+        self.count_if(!input.ends_with(b"\r\n"), "last CRLF missing");
+        self.count_if(input.ends_with(b"\r"), "lone CR at the end");
+        let long = input.len() >= 65_000 && !input[..65_000].windows(2).any(|pair| pair == b"\r\n");
+        self.count_if(long, "row longer than a buffer");
+        let mut rows = Rows::new(input);
+        let mut book = Book::new();
+        while let Some(row) = rows.next_row().unwrap() {
+            self.rows += 1;
+            self.take_bytes(row);
+            let event = rows::read(row);
+            if let Ok(event) = event {
+                self.take_event(&book, &event);
+            }
+            let answer = event.and_then(|event| book.apply(event));
+            self.take_answer(&book, event.ok(), &answer);
+        }
+    }
+
+    fn take_bytes(&mut self, row: &[u8]) {
+        self.count_if(row.is_empty(), "empty row");
+        self.count_if(row.contains(&b'\r'), "lone CR");
+        self.count_if(row.contains(&b'\n'), "lone LF");
+        self.count_if(row.contains(&b'"'), "double quote");
+        for length in [256, 257, 300, 10_000] {
+            self.count_if(row.len() == length, &format!("row of {length} bytes"));
+        }
+        self.count_if(row.len() == 256 && rows::read(row) == Err(Refusal::StrikeText), "row of 256 bytes that is read");
+        let digits = |field: &[u8]| field.iter().all(u8::is_ascii_digit);
+        for count in [18, 19] {
+            self.count_if(
+                row.split(|&byte| byte == b',').any(|field| field.len() == count && digits(field)),
+                &format!("{count} digits"),
+            );
+        }
+        self.count_if(
+            row.split(|&byte| byte == b',').any(|field| field.len() > 1 && field[0] == b'0' && digits(field)),
+            "leading zero",
+        );
+    }
+
+    /// What an event finds in the book.
+    fn take_event(&mut self, book: &Book, event: &Event) {
+        match *event {
+            Event::Trade { series: 255, .. } => self.count("series held at 255"),
+            Event::Trade { buyer: 255, .. } | Event::Trade { seller: 255, .. } => self.count("account held at 255"),
+            Event::List { .. } => self.count_if(book.intraday_is_over, "listing after an intraday session"),
+            Event::Evening => self.take_evening(book),
+            _ => {}
+        }
+        self.count_if(book.day == LAST_DAY, "event on day 999");
+    }
+
+    fn take_evening(&mut self, book: &Book) {
+        let live = || book.series.iter().filter(|series| book.day <= series.last_day);
+        self.count_if(live().count() == 0, "evening without live series");
+        if live().any(|series| series.mark.is_none()) {
+            return;
+        }
+        for series in live() {
+            let held = series.positions.iter().any(|&position| position > 0);
+            let mark = series.mark.unwrap();
+            if series.last_day == book.day && held {
+                let option = if series.option == OptionType::Call { "call" } else { "put" };
+                self.count(format!("{option} expires, strike {:?} futures", series.strike.cmp(&mark.futures)));
+            }
+            for (account, &position) in series.positions.iter().enumerate() {
+                self.count_if(position > 0 && series.declined[account], "holder declines");
+                let asks = position > 0 && series.requests[account] > 0;
+                self.count_if(asks && series.requests[account] > position, "request above the position that is left");
+                let when = if series.last_day == book.day { "on" } else { "before" };
+                if asks {
+                    self.count(format!("{:?} request {when} the last day", series.category));
+                }
+            }
+            self.take_remainders(book, series);
+        }
+        self.count_if(live().count() > 1 && book.blotter.len() > 1, "evening of several series with trades");
+    }
+
+    /// Whether the contracts left over have to pass over an account by its number alone.
+    fn take_remainders(&mut self, book: &Book, series: &second::book::Series) {
+        let mut after = book.clone();
+        if after.apply(Event::Evening).is_err() {
+            return;
+        }
+        let number = book.series.iter().position(|other| std::ptr::eq(other, series)).unwrap();
+        let sign = if series.option == OptionType::Call { 1 } else { -1 };
+        let arisen = |account: usize| sign * (after.series[number].futures[account] - series.futures[account]);
+        let short: Vec<(usize, i64)> = (0..64)
+            .filter(|&account| series.positions[account] < 0)
+            .map(|account| (account, -series.positions[account]))
+            .collect();
+        let all: i64 = short.iter().map(|writer| writer.1).sum();
+        let exercised: i64 = (0..64).map(arisen).filter(|&futures| futures > 0).sum();
+        if all == 0 || exercised == 0 {
+            return;
+        }
+        let remainder = |writer: &(usize, i64)| exercised * writer.1 % all;
+        let one_more = |writer: &(usize, i64)| -arisen(writer.0) > exercised * writer.1 / all;
+        self.count_if(short.iter().any(one_more), "contracts left over in assignment");
+        let tie =
+            short.iter().any(|a| short.iter().any(|b| remainder(a) == remainder(b) && one_more(a) && !one_more(b)));
+        self.count_if(tie, "equal remainders decided by account");
+        self.count_if(exercised == all, "all writers assigned in full");
+    }
+
+    fn take_answer(&mut self, book: &Book, event: Option<Event>, answer: &Result<Done, Refusal>) {
+        match answer {
+            Ok(Done::Entered) => self.count("A without series"),
+            Ok(Done::Listed(_)) => self.count("A with the listed series"),
+            Ok(Done::Settled(session)) => {
+                let name = if event == Some(Event::Intraday) { "intraday" } else { "evening" };
+                for &money in &session.money {
+                    self.count_if(money > 0, &format!("M received in an {name}"));
+                    self.count_if(money < 0, &format!("M paid in an {name}"));
+                    self.count_if((-99..=-1).contains(&money), "M between -0.99 and -0.01");
+                    self.count_if(money.abs() > 1_000_000_000_000, "M above ten milliard roubles");
+                }
+                for &(_, _, count) in &session.futures {
+                    self.count_if(count > 0, "F positive");
+                    self.count_if(count < 0, "F negative");
+                }
+            }
+            Err(refusal) => self.count(format!("refusal {}", refusal.number())),
+        }
+        self.carried_out += u64::from(answer.is_ok());
+        if let (Some(Event::Exercise { series, .. }), Ok(_)) = (event, answer) {
+            self.count_if(book.series[usize::from(series)].category == Category::European, "European exercise entered");
+        }
+        if let (Some(Event::Trade { series, .. }), Ok(_)) = (event, answer) {
+            let positions = &book.series[usize::from(series)].positions;
+            self.count_if(positions.contains(&POSITION_LIMIT), "position at the limit");
+            self.count_if(positions.contains(&-POSITION_LIMIT), "short position at the limit");
+            self.count_if(book.blotter.len() == 256, "full blotter");
+        }
+    }
+}
+
+#[test]
+fn every_refusal_and_every_kind_of_line() {
+    let mut census = Census::default();
+    for seed in GATE_SEEDS {
+        census.take(&market(seed));
+    }
+    let mut wanted: Vec<String> = (1..=20).map(|number| format!("refusal {number}")).collect();
+    wanted.extend(
+        [
+            "A without series",
+            "A with the listed series",
+            "M received in an intraday",
+            "M paid in an intraday",
+            "M received in an evening",
+            "M paid in an evening",
+            "M between -0.99 and -0.01",
+            "M above ten milliard roubles",
+            "F positive",
+            "F negative",
+            "empty input",
+            "last CRLF missing",
+            "lone CR at the end",
+            "empty row",
+            "lone CR",
+            "lone LF",
+            "double quote",
+            "row of 256 bytes",
+            "row of 257 bytes",
+            "row of 300 bytes",
+            "row of 10000 bytes",
+            "row of 256 bytes that is read",
+            "row longer than a buffer",
+            "18 digits",
+            "19 digits",
+            "leading zero",
+            "series held at 255",
+            "account held at 255",
+            "listing after an intraday session",
+            "event on day 999",
+            "evening without live series",
+            "call expires, strike Less futures",
+            "call expires, strike Equal futures",
+            "call expires, strike Greater futures",
+            "put expires, strike Less futures",
+            "put expires, strike Equal futures",
+            "put expires, strike Greater futures",
+            "holder declines",
+            "request above the position that is left",
+            "American request before the last day",
+            "American request on the last day",
+            "European request on the last day",
+            "European exercise entered",
+            "evening of several series with trades",
+            "contracts left over in assignment",
+            "equal remainders decided by account",
+            "all writers assigned in full",
+            "position at the limit",
+            "short position at the limit",
+            "full blotter",
+        ]
+        .map(String::from),
+    );
+    println!("{} rows, {} carried out", census.rows, census.carried_out);
+    for (what, count) in &census.counts {
+        println!("{count:9} {what}");
+    }
+    for what in wanted {
+        assert!(census.counts.get(&what).is_some_and(|&count| count >= 5), "too few: {what}");
+    }
+    assert!(3 * census.carried_out > 2 * census.rows, "most rows are carried out");
+}
+
+#[test]
+fn the_market_of_the_full_size() {
+    let mut input = Vec::new();
+    second::load::write(&mut input).unwrap();
+    let mut census = Census::default();
+    census.take(&input);
+    assert!((275_000..=285_000).contains(&census.rows));
+    assert_eq!(census.carried_out, census.rows);
+    for what in ["F positive", "F negative", "M paid in an intraday", "M received in an evening", "full blotter"] {
+        assert!(census.counts[what] >= 1_000, "{what}");
+    }
+}
