@@ -8,3 +8,4 @@ pub mod Money
 pub mod KeepsEmpty
 pub mod KeepsEvents
 pub mod KeepsSessions
+pub mod Keeps
