@@ -2,6 +2,7 @@ pub mod Search
 pub mod Live
 pub mod Revaluation
 pub mod Trades
+pub mod Outcome
 pub mod LiveSeries
 pub mod Allowed
 pub mod Money

@@ -56,11 +56,11 @@ less-requires c κs =
     let after = s .args .after in
     let g = s .pre .0 in (
       rw (c .before .before .before .revaluation .ensures)
-      (bounded-table accounts (gained b after)
-      (λ a lt. within-le (rw (gains-all b after (g .listed) a) at (gains-small b g after (s .pre .1) (b .listed) a (g .listed))) (omega arith))),
+          (bounded-table accounts (gained b after)
+          (λ a lt. within-le (rw (gains-all b after (g .listed) a) at (gains-small b g after (s .pre .1) (b .listed) a (g .listed))) (omega arith))),
       rw (costs c)
-      (bounded-table accounts (cost b)
-      (λ a lt. within-le (traded-small (b .blotter) (coefficientsOf b) (b .trades) (g .trades) (trades-within b g) (coefficients-within b g) a) (omega arith))),
+          (bounded-table accounts (cost b)
+          (λ a lt. within-le (traded-small (b .blotter) (coefficientsOf b) (b .trades) (g .trades) (trades-within b g) (coefficients-within b g) a) (omega arith))),
     )
 
 returns : tie.Need-returns
