@@ -5,6 +5,8 @@ pub mod Trades
 pub mod Outcome
 pub mod LiveSeries
 pub mod Allowed
+pub mod Money
 pub mod KeepsEmpty
 pub mod KeepsEvents
-pub mod Money
+pub mod KeepsSessions
+pub mod Keeps
