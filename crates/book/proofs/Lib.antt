@@ -10,3 +10,4 @@ pub mod KeepsEmpty
 pub mod KeepsEvents
 pub mod KeepsSessions
 pub mod Keeps
+pub mod SessionMoney
