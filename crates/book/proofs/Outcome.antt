@@ -1,5 +1,5 @@
 -- An event's step by its verdict, as the code's tests find it.
-use mathlib.Core.Path.{_≡_, refl, sym, _∙_}
+use mathlib.Core.Path.{_≡_, sym, ap, _∙_}
 use Rattle.series.specs.Refusals.{_then_}
 use Rattle.series.specs.declared.refusal.Refusal.{Refusal}
 use Rattle.series.specs.declared.refusal.Verdict.{Verdict}
@@ -22,13 +22,13 @@ module _ (b : Book) (e : Event) {r : Step} where
   by-allowance p v = rw (← v) p
 
 -- the first of two verdicts refuses, or allows and leaves it to the second
-pub then-refused : {why : Refusal} {u v : Verdict} → Refused why ≡ u → Refused why ≡ (u then v)
+pub then-refused : {why : Refusal} {u : Verdict} (v : Verdict) → Refused why ≡ u → Refused why ≡ (u then v)
 unfolding _then_
-then-refused e = rw (← e) refl
+then-refused {why} v e = ap (λ (x : Verdict). x then v) e
 
 pub then-allowed : {u v w : Verdict} → Allowed ≡ u → w ≡ v → w ≡ (u then v)
 unfolding _then_
-then-allowed e p = rw (← e) p
+then-allowed {v = v} e p = p ∙ ap (λ (x : Verdict). x then v) e
 
 -- a verdict that a call gave
 pub verdict-is : {r v w : Verdict} → r ≡ v → r ≡ w → w ≡ v
