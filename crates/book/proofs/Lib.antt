@@ -1,3 +1,5 @@
 pub mod Search
 pub mod Live
 pub mod Revaluation
+pub mod LiveSeries
+pub mod Allowed

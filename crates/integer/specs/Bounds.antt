@@ -9,14 +9,14 @@ use native.Mathlib.Omega.{arith}
 use native.Mathlib.Decide.{ℕ-discrete, decLt}
 use lib.Dec.{T, ltb, leb, ltb→lt}
 use lib.IntN.{ℤ, pos, negℤ, natAbs, _+ℤ_, _-ℤ_, _*ℤ_}
-use lib.ListN.{length, getD, set, List·getD-eq-default}
+use lib.ListN.{length, getD, set, replicate, List·getD-eq-default}
 use lib.Seq.{getD-set-same, getD-set-other, set-out}
 use mir.Syntax.{Width}
 use mir.Val.{SFits, hbits}
 use borrow.Author.Tests.{leb-true}
 use Rattle.integer.specs.Absolute.{abs-add, abs-sub, abs-neg, abs-mul-le, sfits-abs}
 use Rattle.integer.specs.Table.{table, length-table, getD-table}
-use Rattle.integer.specs.Sum.{sumTo, sum-abs, at}
+use Rattle.integer.specs.Sum.{sumTo, sum-abs, at, at-zeros}
 
 -- x is at most B from 0
 pub record Within (B : ℕ) (x : ℤ) : Type 0 where
@@ -86,3 +86,6 @@ bounded-set {B} {l} i {v} h k = record { each = λ j. by j (ℕ-discrete j i) (d
 
 pub bounded-table : {B : ℕ} (n : ℕ) (f : ℕ → ℤ) → ((k : ℕ) → k < n → Within B (f k)) → Bounded B (table n f)
 bounded-table n f h = bounded-at (table n f) (length-table n f) (λ k lt. rw (getD-table n f k (pos 0) lt) (h k lt))
+
+pub bounded-zeros : (B n : ℕ) → Bounded B (replicate n (pos 0))
+bounded-zeros B n = record { each = λ k. rw (at-zeros n k) (within-pos (omega arith)) }

@@ -8,11 +8,12 @@ use native.Mathlib.Numerals.{add-one}
 use native.Mathlib.Decide.{ℕ-discrete}
 use native.Mathlib.Omega.{arith}
 use lib.IntN.{ℤ, pos, negℤ, natAbs, _+ℤ_, _-ℤ_, _*ℤ_, +ℤ-idr, +ℤ-assoc, +ℤ-comm, zero-*ℤ, *ℤ-zero}
-use lib.ListN.{length, getD, set, length-set}
+use lib.ListN.{length, getD, set, replicate, length-set}
 use lib.Seq.{getD-set-same, getD-set-other}
 use Rattle.integer.specs.Ring.{_⊖_, part⁺, part⁻, split, ring, ⊖-eq, *ℤ-distl, *ℤ-distr, split-pos, cross, uncross, parts-}
 use Rattle.integer.specs.Order.{≤ℤ-add}
 use Rattle.integer.specs.Absolute.{abs-add}
+use Rattle.integer.specs.Table.{table, getD-table}
 use lib.Signed.{_≤ℤ_, ≤ℤ-refl}
 use borrow.Author.Tests.{eq-eqb, ne-eqb}
 use lib.Dec.{eqb}
@@ -96,6 +97,11 @@ sum-change (suc n) i f g lt h = by (ℕ-discrete i n) (λ l. sum-change n i f g 
     by (no ne) ih =
         rw (ih (omega arith), h n (λ e. ne (sym e)), split (sumTo n f), split (f n), split (g i), split (f i)) (simp ring (⊖-eq _ _ _ _ (omega arith)))
 
+-- all but one are 0
+pub sum-one : (n i : ℕ) (f : ℕ → ℤ) → i < n → ((k : ℕ) → k ≢ i → f k ≡ pos 0) → sumTo n f ≡ f i
+sum-one n i f lt h =
+    sum-change n i (λ k. pos 0) f lt h ∙ rw (sum-0 n, split (f i)) (simp ring (⊖-eq _ _ _ _ (omega arith)))
+
 -- a function changed at one place
 pub put : ℕ → ℤ → (ℕ → ℤ) → ℕ → ℤ
 put i v f k = cond (eqb k i) v (f k)
@@ -147,6 +153,17 @@ sum-abs (suc n) B f h = omega (arith, abs-add (sumTo n f) (f n), h n (omega arit
 -- the element of a list at an index, 0 past its end
 abbrev pub at : List ℤ → ℕ → ℤ
 at l k = getD l k (pos 0)
+
+pub sum-table : (n : ℕ) (f : ℕ → ℤ) → sumTo n (at (table n f)) ≡ sumTo n f
+sum-table n f = sum-ext n (at (table n f)) f (λ k lt. getD-table n f k (pos 0) lt)
+
+pub at-zeros : (n k : ℕ) → at (replicate n (pos 0)) k ≡ pos 0
+at-zeros zero k = refl
+at-zeros (suc n) zero = refl
+at-zeros (suc n) (suc k) = at-zeros n k
+
+pub sum-zeros : (n m : ℕ) → sumTo m (at (replicate n (pos 0))) ≡ pos 0
+sum-zeros n m = sum-ext m (at (replicate n (pos 0))) (λ k. pos 0) (λ k lt. at-zeros n k) ∙ sum-0 m
 
 -- a move on a list: the two places are stored one after the other
 pub sum-move-list : (n : ℕ) (l : List ℤ) (i j : ℕ) (q : ℤ) → length l ≡ n → i < n → j < n → i ≢ j

@@ -1,3 +1,4 @@
 pub mod Limits
 pub mod Settling
 pub mod Allowed
+pub mod Keeps
