@@ -3,3 +3,4 @@ pub mod Live
 pub mod Revaluation
 pub mod LiveSeries
 pub mod Allowed
+pub mod Values
