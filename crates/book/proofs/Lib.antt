@@ -4,3 +4,7 @@ pub mod Revaluation
 pub mod LiveSeries
 pub mod Allowed
 pub mod Values
+pub mod Simulation
+pub mod SimulationEvents
+pub mod SimulationEvening
+pub mod SimulationSteps
