@@ -8,3 +8,5 @@ pub mod Simulation
 pub mod SimulationEvents
 pub mod SimulationEvening
 pub mod SimulationSteps
+pub mod AlikeLists
+pub mod Demand
