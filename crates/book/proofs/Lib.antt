@@ -10,3 +10,4 @@ pub mod SimulationEvening
 pub mod SimulationSteps
 pub mod AlikeLists
 pub mod Demand
+pub mod Witness
