@@ -1,8 +1,15 @@
 pub mod Search
 pub mod Live
 pub mod Revaluation
+pub mod Trades
+pub mod Outcome
 pub mod LiveSeries
 pub mod Allowed
+pub mod Money
+pub mod KeepsEmpty
+pub mod KeepsEvents
+pub mod KeepsSessions
+pub mod Keeps
 pub mod Values
 pub mod Simulation
 pub mod SimulationEvents

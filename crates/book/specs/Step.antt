@@ -9,6 +9,7 @@ use Rattle.terms.specs.Bounds.{accounts}
 use Rattle.series.specs.Changes.{traded, requested, declinedBy, marked}
 use Rattle.series.specs.Series.{newSeries}
 use Rattle.series.specs.declared.state.Listing.{Listing}
+use Rattle.series.specs.declared.refusal.Refusal.{Refusal}
 use Rattle.series.specs.declared.refusal.Verdict.{Verdict}
 use Rattle.series.specs.declared.refusal.Verdict.the-variants as verdict
 use Rattle.book.specs.State.{noMoney, emptyBook, seriesAt, withSeries}
@@ -67,10 +68,14 @@ carriedOut b (Mark i p f w) = done (withSeries b i (marked (seriesAt b i) p f w)
 carriedOut b Intraday = record { answer = Done; money = table accounts (intradayMoney b); book = afterIntraday b }
 carriedOut b Evening = record { answer = Done; money = table accounts (eveningMoney b); book = afterEvening b }
 
--- an event by its verdict: a refused one leaves the book as it stood and pays nobody
+-- "A refused event leaves the book as it stood and pays nobody."
+abbrev pub refused : Book → Refusal → Step
+refused b why = record { answer = Refused why; money = noMoney; book = b }
+
+-- an event by its verdict
 unfoldable pub outcome : Book → Event → Verdict → Step
 outcome b e verdict.Allowed = carriedOut b e
-outcome b e (verdict.Refused why) = record { answer = Refused why; money = noMoney; book = b }
+outcome b e (verdict.Refused why) = refused b why
 
 abbrev pub stepOf : Book → Event → Step
 stepOf b e = outcome b e (verdictOf b e)

@@ -97,11 +97,6 @@ sum-change (suc n) i f g lt h = by (ℕ-discrete i n) (λ l. sum-change n i f g 
     by (no ne) ih =
         rw (ih (omega arith), h n (λ e. ne (sym e)), split (sumTo n f), split (f n), split (g i), split (f i)) (simp ring (⊖-eq _ _ _ _ (omega arith)))
 
--- all but one are 0
-pub sum-one : (n i : ℕ) (f : ℕ → ℤ) → i < n → ((k : ℕ) → k ≢ i → f k ≡ pos 0) → sumTo n f ≡ f i
-sum-one n i f lt h =
-    sum-change n i (λ k. pos 0) f lt h ∙ rw (sum-0 n, split (f i)) (simp ring (⊖-eq _ _ _ _ (omega arith)))
-
 -- a function changed at one place
 pub put : ℕ → ℤ → (ℕ → ℤ) → ℕ → ℤ
 put i v f k = cond (eqb k i) v (f k)

@@ -82,8 +82,8 @@ loop-again c =
     let i = l .before .loop .i in (
       omega (arith, l .loop-test .taken),
       filled-ext (λ a. sym (gains-next b after i (l .loop-test .taken) a))
-      (added (not (expired (seriesAt b i) (b .day))) (l .before .loop .money) (gains b after i)
-      (λ a. revaluedIn (seriesAt b i) a (positionOf (getD after i noSeries) a)) _ (l .before .loop .inv .1) (c .revalue-series .ensures)),
+          (added (not (expired (seriesAt b i) (b .day))) (l .before .loop .money) (gains b after i)
+          (λ a. revaluedIn (seriesAt b i) a (positionOf (getD after i noSeries) a)) _ (l .before .loop .inv .1) (c .revalue-series .ensures)),
     )
 
 returns : tie.Need-returns Inv-loop μ-loop

@@ -56,7 +56,7 @@ loop-again c =
     let i = l .before .loop .i in (
       omega (arith, l .loop-test .taken),
       updated-next (l .before .loop .inv .1) (omega (arith, l .loop-test .taken, l .before .before .before .pre .0 .listed)) _
-      (c .after-evening .ensures ∙ by-listed b i _ _ (l .loop-test .taken)),
+          (c .after-evening .ensures ∙ by-listed b i _ _ (l .loop-test .taken)),
     )
 
 returns : tie.Need-returns Inv-loop μ-loop

@@ -1,0 +1,172 @@
+-- A session keeps what holds of every book.
+use mathlib.Core.Path.{_≡_, refl, sym, _∙_}
+use mathlib.Core.Bool.{Bool, true, false}
+use Prim.Native.Nat.{ℕ, _+_, _*_, _≤_, _<_}
+use native.Mathlib.Decide.{decLt}
+use native.Mathlib.Omega.{arith}
+use lib.IntN.{ℤ, pos, _+ℤ_, _-ℤ_, +ℤ-idr, +ℤ-negℤ-cancel}
+use lib.ListN.{getD, List·getD-eq-default}
+use Rattle.choice.specs.Choice.{choose}
+use Rattle.integer.specs.Bounds.{Within, within-pos, bounded-table, bounded-zeros}
+use Rattle.integer.specs.Sum.{sumTo, at, at-zeros, sum-zeros, sum-add, sum-table}
+use Rattle.integer.specs.Table.{table, length-table, getD-table}
+use Rattle.terms.specs.Bounds.{accounts, seriesRoom}
+use Rattle.series.specs.Changes.{unmarked, settled}
+use Rattle.series.specs.Good.{GoodSeries}
+use Rattle.series.specs.Series.{newSeries}
+use Rattle.series.specs.declared.state.Series.{Series}
+use Rattle.series.proofs.Keeps.{good-unmarked, good-settled, good-later}
+use Rattle.book.specs.Good.{Good, Idle, mostInADay}
+use Rattle.book.specs.Sessions.{changed, intradayMoney, eveningMoney, paidInto, afterIntraday, afterEvening}
+use Rattle.book.specs.State.{seriesAt, tradeAt, live, cash, noListing, noSeries}
+use Rattle.book.specs.declared.state.Book.{Book}
+use Rattle.book.proofs.Allowed.{CanIntraday, CanEvening}
+use Rattle.book.proofs.KeepsEvents.{same-trade}
+use Rattle.book.proofs.LiveSeries.{live-yes, is-live, false-not-true}
+use Rattle.book.proofs.Money.{intraday-within, intraday-balances, evening-balances, settled-within}
+
+-- what holds of a live series once it is changed, and of the others as they are, holds of each
+each-changed : (b : Book) (change : Series → Series) (P : ℕ → Series → Type 0)
+    → ((i : ℕ) → i < seriesRoom → live b i ≡ true → P i (change (seriesAt b i)))
+    → ((i : ℕ) → i < seriesRoom → live b i ≡ false → P i (seriesAt b i))
+    → (i : ℕ) → i < seriesRoom → P i (getD (changed b change) i noSeries)
+unfolding choose
+each-changed b change P p q i lt =
+    rw (getD-table seriesRoom (λ i. choose (live b i) (change (seriesAt b i)) (seriesAt b i)) i noSeries lt) (by (live b i) refl)
+  where
+    by : (t : Bool) → live b i ≡ t → P i (choose t (change (seriesAt b i)) (seriesAt b i))
+    by true e = p i lt e
+    by false e = q i lt e
+
+-- a table is 0 past its end
+past-table : (f : ℕ → ℤ) (a : ℕ) → accounts ≤ a → at (table accounts f) a ≡ pos 0
+past-table f a le = List·getD-eq-default (table accounts f) (pos 0) {n = a} (rw (length-table accounts f) le)
+
+-- by whether a is an account
+by-account : (P : ℕ → Type 0) → ((a : ℕ) → a < accounts → P a) → ((a : ℕ) → accounts ≤ a → P a) → (a : ℕ) → P a
+by-account P f g a = by (decLt a accounts)
+  where
+    by : Dec (a < accounts) → P a
+    by (yes lt) = f a lt
+    by (no ge) = g a (omega arith)
+
+-- within a bound, less nothing
+less-zero : {B : ℕ} (x : ℤ) {y : ℤ} → y ≡ pos 0 → Within B x → Within B (x -ℤ y)
+less-zero x e h = rw (e, +ℤ-idr x) h
+
+module _ (b : Book) (g : Good b) where
+  room : (i : ℕ) → i < b .listed → i < seriesRoom
+  room i lt = omega (arith, g .listed)
+
+  unlisted-not-live : (i : ℕ) → b .listed ≤ i → live b i ≡ true → ⊥
+  unlisted-not-live i le l = omega (arith, live-yes b i l .listed)
+
+  paid-into-balances : (f : ℕ → ℤ) → sumTo accounts f ≡ pos 0 → sumTo accounts (at (paidInto (b .cash) f)) ≡ pos 0
+  paid-into-balances f e =
+      sum-table accounts (λ a. cash b a +ℤ f a) ∙ sum-add accounts (cash b) f ∙ rw (g .cash-balances, e) refl
+
+  -- a series that is not listed is as it was
+  still-unlisted : (change : Series → Series) (i : ℕ) → b .listed ≤ i → i < seriesRoom
+      → getD (changed b change) i noSeries ≡ newSeries noListing
+  still-unlisted change i le lt =
+      each-changed b change (λ i s. b .listed ≤ i → s ≡ newSeries noListing)
+      (λ i _ l h. absurd (unlisted-not-live i h l)) (λ i r _ h. g .unlisted i h r) i lt le
+
+  -- ---- the intraday session
+  pub good-intraday : CanIntraday b → Good (afterIntraday b)
+  good-intraday c =
+      record {
+        day = g .day;
+        listed = g .listed;
+        trades = g .trades;
+        series-long = length-table seriesRoom _;
+        blotter-long = g .blotter-long;
+        paid-long = length-table accounts _;
+        cash-long = length-table accounts _;
+        series =
+            each (λ i s. GoodSeries (b .day) s) (λ i lt _. good-unmarked (b .day) (seriesAt b i) (g .series i lt)) (λ i lt _. g .series i lt);
+        tick = λ i lt. rw (same-listing i (room i lt)) (g .tick i lt);
+        idle = λ i lt.
+            each (λ i s. i < b .listed → s .listing .last < b .day → Idle s) (λ i _ l _ past. absurd (not-past i l past)) (λ i _ _. g .idle i) i
+            (room i lt) lt;
+        unlisted = still-unlisted unmarked;
+        blotter = λ k lt. same-trade b (afterIntraday b) (tradeAt b k) refl (omega arith) (λ i l. same-listing i (room i l)) (g .blotter k lt);
+        paid = bounded-table accounts (intradayMoney b) (λ a _. intraday-within b g a);
+        fresh = λ e. absurd (false-not-true (sym e));
+        paid-balances = sum-table accounts (intradayMoney b) ∙ intraday-balances b g;
+        settled = by-account (λ a. Within (b .day * mostInADay) (cash (afterIntraday b) a -ℤ at (afterIntraday b .paid) a)) unchanged nobody;
+        cash-balances = paid-into-balances (intradayMoney b) (intraday-balances b g);
+      }
+    where
+      each : (P : ℕ → Series → Type 0) → ((i : ℕ) → i < seriesRoom → live b i ≡ true → P i (unmarked (seriesAt b i)))
+          → ((i : ℕ) → i < seriesRoom → live b i ≡ false → P i (seriesAt b i)) → (i : ℕ) → i < seriesRoom → P i (seriesAt (afterIntraday b) i)
+      each = each-changed b unmarked
+
+      same-listing : (i : ℕ) → i < seriesRoom → seriesAt (afterIntraday b) i .listing ≡ seriesAt b i .listing
+      same-listing = each (λ i s. s .listing ≡ seriesAt b i .listing) (λ _ _ _. refl) (λ _ _ _. refl)
+
+      not-past : (i : ℕ) → live b i ≡ true → seriesAt b i .listing .last < b .day → ⊥
+      not-past i l past = omega (arith, live-yes b i l .today)
+
+      -- cash without today's intraday payment is what it was before the session
+      unchanged : (a : ℕ) → a < accounts → Within (b .day * mostInADay) (cash (afterIntraday b) a -ℤ at (afterIntraday b .paid) a)
+      unchanged a lt =
+          rw (getD-table accounts (λ a. cash b a +ℤ intradayMoney b a) a (pos 0) lt, getD-table accounts (intradayMoney b) a (pos 0) lt, +ℤ-negℤ-cancel (cash b a) (intradayMoney b a))
+          (rw (g .fresh (c .first) a, +ℤ-idr (cash b a)) at (g .settled a))
+
+      nobody : (a : ℕ) → accounts ≤ a → Within (b .day * mostInADay) (cash (afterIntraday b) a -ℤ at (afterIntraday b .paid) a)
+      nobody a le =
+          less-zero (cash (afterIntraday b) a) (past-table (intradayMoney b) a le)
+          (rw (past-table (λ a. cash b a +ℤ intradayMoney b a) a le) (within-pos (omega arith)))
+
+  -- ---- the evening session
+  pub good-evening : CanEvening b → Good (afterEvening b)
+  good-evening c =
+      record {
+        day = omega arith;
+        listed = g .listed;
+        trades = omega arith;
+        series-long = length-table seriesRoom _;
+        blotter-long = g .blotter-long;
+        paid-long = refl;
+        cash-long = length-table accounts _;
+        series =
+            each (λ i s. GoodSeries (b .day + 1) s) (λ i lt _. good-settled (b .day) (seriesAt b i) (g .series i lt))
+            (λ i lt _. good-later (b .day) (seriesAt b i) (g .series i lt));
+        tick = λ i lt. rw (same-listing i (room i lt)) (g .tick i lt);
+        idle = λ i lt past.
+            each (λ i s. i < b .listed → Idle s) (λ i _ _ _. record { mark = refl; requests = refl; declined = refl })
+            (λ i _ n l. g .idle i l (expired-before i n l)) i (room i lt) lt;
+        unlisted = still-unlisted (λ s. settled s (b .day));
+        blotter = λ k lt. absurd (none k lt);
+        paid = bounded-zeros mostInADay accounts;
+        fresh = λ _ a. at-zeros accounts a;
+        paid-balances = sum-zeros accounts accounts;
+        settled = λ a.
+            less-zero (cash (afterEvening b) a) (at-zeros accounts a)
+            (by-account (λ a. Within ((b .day + 1) * mostInADay) (cash (afterEvening b) a)) paid nobody a);
+        cash-balances = paid-into-balances (eveningMoney b) (evening-balances b g);
+      }
+    where
+      each : (P : ℕ → Series → Type 0) → ((i : ℕ) → i < seriesRoom → live b i ≡ true → P i (settled (seriesAt b i) (b .day)))
+          → ((i : ℕ) → i < seriesRoom → live b i ≡ false → P i (seriesAt b i)) → (i : ℕ) → i < seriesRoom → P i (seriesAt (afterEvening b) i)
+      each = each-changed b (λ s. settled s (b .day))
+
+      same-listing : (i : ℕ) → i < seriesRoom → seriesAt (afterEvening b) i .listing ≡ seriesAt b i .listing
+      same-listing = each (λ i s. s .listing ≡ seriesAt b i .listing) (λ _ _ _. refl) (λ _ _ _. refl)
+
+      none : (k : ℕ) → k < 0 → ⊥
+      none k lt = omega arith
+
+      expired-before : (i : ℕ) → live b i ≡ false → i < b .listed → seriesAt b i .listing .last < b .day
+      expired-before i n l = by (decLt (seriesAt b i .listing .last) (b .day))
+        where
+          by : Dec (seriesAt b i .listing .last < b .day) → seriesAt b i .listing .last < b .day
+          by (yes past) = past
+          by (no today) = absurd (false-not-true (sym n ∙ is-live b i (record { listed = l; today = omega arith })))
+
+      paid : (a : ℕ) → a < accounts → Within ((b .day + 1) * mostInADay) (cash (afterEvening b) a)
+      paid a lt = rw (getD-table accounts (λ a. cash b a +ℤ eveningMoney b a) a (pos 0) lt) (settled-within b g a)
+
+      nobody : (a : ℕ) → accounts ≤ a → Within ((b .day + 1) * mostInADay) (cash (afterEvening b) a)
+      nobody a le = rw (past-table (λ a. cash b a +ℤ eveningMoney b a) a le) (within-pos (omega arith))
