@@ -27,6 +27,8 @@ use Rattle.book.specs.declared.state.Event.{Event}
 use Rattle.book.specs.declared.state.Event.the-variants.{List, Trade, Exercise, Decline, Mark, Intraday, Evening}
 use Rattle.book.specs.declared.state.Step.{Step}
 use Rattle.book.proofs.AlikeLists.{tail-carried, same-reckoning, same-evening}
+use Rattle.book.proofs.Keeps.{good-step, good-after}
+use Rattle.book.proofs.KeepsEmpty.{good-empty}
 use Rattle.book.proofs.Simulation.{Sim, sim-empty}
 use Rattle.book.proofs.SimulationSteps.{keeps}
 
@@ -90,45 +92,37 @@ evening-cleared [] b i E a h = absurd (not-suc-le-zero (E .within))
 evening-cleared (e ∷ es) b zero E a h = evening-clears b e (E .event) (E .carried) a h
 evening-cleared (e ∷ es) b (suc i) E a h = evening-cleared es (stepOf b e .book) i (tail-carried b e es Evening i E) a h
 
-module _ (good-empty : Good emptyBook) (good-step : (b : Book) → Good b → (e : Event) → Good (stepOf b e .book)) where
-  -- ---- the book and the reckoning, after every list
-  good-run : (es : list.List Event) (b : Book) → Good b → Good (run b es)
-  unfolding run
-  good-run [] b G = G
-  good-run (e ∷ es) b G = good-run es (stepOf b e .book) (good-step b G e)
+-- ---- the book and the reckoning, after every list
 
-  sim-run : (es : list.List Event) (b : Book) (r : Reckoning) → Good b → Sim b r → Sim (run b es) (reckonFrom r (toldFrom b es))
-  unfolding run reckonFrom toldFrom
-  sim-run [] b r G S = S
-  sim-run (e ∷ es) b r G S =
-      sim-run es (stepOf b e .book) (hear r (carriedOut (stepOf b e .answer)) e) (good-step b G e) (keeps b r G S e)
+sim-run : (es : list.List Event) (b : Book) (r : Reckoning) → Good b → Sim b r → Sim (run b es) (reckonFrom r (toldFrom b es))
+unfolding run reckonFrom toldFrom
+sim-run [] b r G S = S
+sim-run (e ∷ es) b r G S =
+    sim-run es (stepOf b e .book) (hear r (carriedOut (stepOf b e .answer)) e) (good-step b G e) (keeps b r G S e)
 
-  good : (es : list.List Event) → Good (after es)
-  good es = good-run es emptyBook good-empty
+sim : (es : list.List Event) → Sim (after es) (reckon (told es))
+sim es = sim-run es emptyBook start good-empty sim-empty
 
-  sim : (es : list.List Event) → Sim (after es) (reckon (told es))
-  sim es = sim-run es emptyBook start good-empty sim-empty
+evening-cash : (es : list.List Event) (i : ℕ) → CarriedOut emptyBook es Evening i → (a : ℕ) → a < accounts
+    → cash (after (upTo i es)) a ≡ reckon (told (upTo i es)) .cash a
+evening-cash es i E a h = sim (upTo i es) .money a h ∙ rw (evening-cleared es emptyBook i E a h) (+ℤ-idr _)
 
-  evening-cash : (es : list.List Event) (i : ℕ) → CarriedOut emptyBook es Evening i → (a : ℕ) → a < accounts
-      → cash (after (upTo i es)) a ≡ reckon (told (upTo i es)) .cash a
-  evening-cash es i E a h = sim (upTo i es) .money a h ∙ rw (evening-cleared es emptyBook i E a h) (+ℤ-idr _)
-
-  pub demand-3 : (es : list.List Event) → Demand-3 es
-  demand-3 es =
-      record {
-        positions-balance = λ s h. good es .series s h .positions .balance;
-        futures-balance = λ s h. good es .series s h .futures .balance;
-        cash-balances = good es .cash-balances;
-        reckoned-positions = λ s a h k. sim es .series s h .positions a k;
-        reckoned-futures = λ s a h k. sim es .series s h .futures a k;
-        cash-is-money = cash-is-money es;
-        evening-cash = evening-cash es;
-        no-trace-in-cash = λ fs A i E a k.
-            evening-cash es i E a k ∙ ap (λ (r : Reckoning). r .cash a) (same-reckoning es fs A i E) ∙ sym (evening-cash fs i (same-evening es fs A i E) a k);
-        no-trace-in-positions = λ fs A i E s a h k.
-            sim (upTo i es) .series s h .positions a k ∙ ap (λ (r : Reckoning). r .position s a) (same-reckoning es fs A i E)
-            ∙ sym (sim (upTo i fs) .series s h .positions a k);
-        no-trace-in-futures = λ fs A i E s a h k.
-            sim (upTo i es) .series s h .futures a k ∙ ap (λ (r : Reckoning). r .futures s a) (same-reckoning es fs A i E)
-            ∙ sym (sim (upTo i fs) .series s h .futures a k);
-      }
+pub demand-3 : (es : list.List Event) → Demand-3 es
+demand-3 es =
+    record {
+      positions-balance = λ s h. good-after es .series s h .positions .balance;
+      futures-balance = λ s h. good-after es .series s h .futures .balance;
+      cash-balances = good-after es .cash-balances;
+      reckoned-positions = λ s a h k. sim es .series s h .positions a k;
+      reckoned-futures = λ s a h k. sim es .series s h .futures a k;
+      cash-is-money = cash-is-money es;
+      evening-cash = evening-cash es;
+      no-trace-in-cash = λ fs A i E a k.
+          evening-cash es i E a k ∙ ap (λ (r : Reckoning). r .cash a) (same-reckoning es fs A i E) ∙ sym (evening-cash fs i (same-evening es fs A i E) a k);
+      no-trace-in-positions = λ fs A i E s a h k.
+          sim (upTo i es) .series s h .positions a k ∙ ap (λ (r : Reckoning). r .position s a) (same-reckoning es fs A i E)
+          ∙ sym (sim (upTo i fs) .series s h .positions a k);
+      no-trace-in-futures = λ fs A i E s a h k.
+          sim (upTo i es) .series s h .futures a k ∙ ap (λ (r : Reckoning). r .futures s a) (same-reckoning es fs A i E)
+          ∙ sym (sim (upTo i fs) .series s h .futures a k);
+    }

@@ -32,6 +32,7 @@ use Rattle.book.specs.Step.{outcome, stepOf, run, after}
 use Rattle.book.specs.Verdicts.{firstFrom, needsMark}
 use Rattle.book.specs.declared.state.Event.{Event}
 use Rattle.book.specs.declared.state.Event.the-variants.{List, Trade, Mark, Intraday, Evening}
+use Rattle.book.proofs.Demand.{demand-3}
 use Rattle.book.proofs.LiveSeries.{both-true}
 
 -- the list of 01, "Rows", with the option price p in the mark for its intraday session
@@ -124,3 +125,8 @@ witnessed =
     by (suc zero) = inl refl
     by (suc (suc zero)) = inr other-mark
     by (suc (suc (suc i))) = inl refl
+
+-- so the cash that the other list leaves is known by the demand, and not computed
+pub other-cash : cash (after (upTo 7 (example 16100))) 1 ≡ negsuc 149999
+other-cash =
+    sym (demand-3 (example 16000) .no-trace-in-cash (example 16100) (witnessed .alike) 7 (witnessed .expiry) 1 (lit< tt)) ∙ witnessed .expiry-cash
