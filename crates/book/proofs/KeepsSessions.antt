@@ -26,7 +26,7 @@ use Rattle.book.proofs.LiveSeries.{live-yes, is-live, false-not-true}
 use Rattle.book.proofs.Money.{intraday-within, intraday-balances, evening-balances, settled-within}
 
 -- what holds of a live series once it is changed, and of the others as they are, holds of each
-each-changed : (b : Book) (change : Series → Series) (P : ℕ → Series → Type 0)
+pub each-changed : (b : Book) (change : Series → Series) (P : ℕ → Series → Type 0)
     → ((i : ℕ) → i < seriesRoom → live b i ≡ true → P i (change (seriesAt b i)))
     → ((i : ℕ) → i < seriesRoom → live b i ≡ false → P i (seriesAt b i))
     → (i : ℕ) → i < seriesRoom → P i (getD (changed b change) i noSeries)

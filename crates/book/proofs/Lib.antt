@@ -10,6 +10,7 @@ pub mod KeepsEmpty
 pub mod KeepsEvents
 pub mod KeepsSessions
 pub mod Keeps
+pub mod SessionMoney
 pub mod Values
 pub mod Simulation
 pub mod SimulationEvents

@@ -1,7 +1,9 @@
 -- An event's step by its verdict, as the code's tests find it.
 use mathlib.Core.Path.{_≡_, sym, ap, _∙_}
+use Prim.Native.Nat.{ℕ}
 use Rattle.series.specs.Refusals.{_then_}
 use Rattle.series.specs.declared.refusal.Refusal.{Refusal}
+use Rattle.series.specs.declared.refusal.Refusal.the-variants.{NoMark}
 use Rattle.series.specs.declared.refusal.Verdict.{Verdict}
 use Rattle.series.specs.declared.refusal.Verdict.the-variants.{Allowed, Refused}
 use Rattle.book.specs.Step.{outcome, stepOf, carriedOut, refused}
@@ -33,3 +35,12 @@ then-allowed {v = v} e p = p ∙ ap (λ (x : Verdict). x then v) e
 -- a verdict that a call gave
 pub verdict-is : {r v w : Verdict} → r ≡ v → r ≡ w → w ≡ v
 verdict-is e p = sym p ∙ e
+
+-- a search that a call made: it found a series without a mark, or none
+pub mark-missing : {r v : Found} {i : ℕ} → r ≡ v → r ≡ At i → Refused (NoMark i) ≡ needsMark v
+unfolding needsMark
+mark-missing e p = ap needsMark (sym p ∙ e)
+
+pub none-missing : {r v : Found} → r ≡ v → r ≡ Nothing → Allowed ≡ needsMark v
+unfolding needsMark
+none-missing e p = ap needsMark (sym p ∙ e)
