@@ -4,7 +4,6 @@ use mathlib.Core.List as list
 use mathlib.Core.List.{[], _∷_}
 use Prim.Native.Nat.{ℕ, zero, suc, _<_}
 use native.Mathlib.Nat.{not-suc-le-zero}
-use native.Mathlib.Omega.{arith}
 use lib.Dec.{T}
 use lib.IntN.{ℤ, pos, _+ℤ_, +ℤ-assoc, +ℤ-idl, +ℤ-idr}
 use lib.ListN.{getD-replicate}
@@ -12,9 +11,9 @@ use Rattle.integer.specs.Sum.{at}
 use Rattle.integer.specs.Table.{table, getD-table}
 use Rattle.series.specs.declared.refusal.Verdict.{Verdict}
 use Rattle.series.specs.declared.refusal.Verdict.the-variants.{Allowed, Refused}
-use Rattle.terms.specs.Bounds.{accounts, seriesRoom}
+use Rattle.terms.specs.Bounds.{accounts}
 use Rattle.book.specs.Answers.{carriedOut}
-use Rattle.book.specs.Demand.{toldFrom, told, receivedFrom, received, eventAt, CarriedOut, Alike, upTo, Demand-3}
+use Rattle.book.specs.Demand.{toldFrom, told, receivedFrom, received, CarriedOut, upTo, Demand-3}
 use Rattle.book.specs.Good.{Good}
 use Rattle.book.specs.Reckoning.{Reckoning, start, hear, reckonFrom, reckon}
 use Rattle.book.specs.Sessions.{intradayMoney, eveningMoney}

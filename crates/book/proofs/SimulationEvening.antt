@@ -26,7 +26,7 @@ use Rattle.book.specs.Good.{Good}
 use Rattle.book.specs.Reckoning.{Reckoning, noQuotes, running, fixing, closingPosition, newFutures, coefficient, tradedFor, dayMoney}
 use Rattle.book.specs.Reckoning as reckoning
 use Rattle.book.specs.Sessions.{marginIn, eveningMargin, eveningMoney, afterEvening}
-use Rattle.book.specs.State.{noSeries, noMoney, seriesAt, live}
+use Rattle.book.specs.State.{noSeries, seriesAt, live}
 use Rattle.book.specs.declared.state.Book.{Book}
 use Rattle.book.proofs.Allowed.{AllMarked}
 use Rattle.book.proofs.Simulation.{SameSeries, SeriesIn, SameMark, Sim, no-mark, live-running, dormant}

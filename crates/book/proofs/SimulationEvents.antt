@@ -1,10 +1,10 @@
 -- Each event but the evening, carried out by the book and heard by the reckoning, keeps the two alike.
 use mathlib.Core.Path.{_≡_, refl, sym, ap, fun-ext, _∙_}
 use mathlib.Core.Logic.{_≢_}
-use mathlib.Core.Bool.{Bool, true, false, not, _&&_}
+use mathlib.Core.Bool.{Bool, true, false, _&&_}
 use mathlib.Core.List as list
 use mathlib.Core.List.{[], _∷_, _++_}
-use Prim.Native.Nat.{ℕ, _+_, _≤_, _<_}
+use Prim.Native.Nat.{ℕ, _+_, _<_}
 use native.Mathlib.Decide.{ℕ-discrete}
 use native.Mathlib.Nat.{add-zero}
 use native.Mathlib.Omega.{arith}
@@ -14,25 +14,25 @@ use lib.IntN.{ℤ, pos, _+ℤ_, _-ℤ_, +ℤ-assoc, +ℤ-comm, +ℤ-idl, +ℤ-id
 use lib.ListN.{length, getD, set, length-set}
 use lib.Seq.{getD-set-same, getD-set-other}
 use Rattle.choice.specs.Choice.{choose}
-use Rattle.exercise.specs.Places.{places, amount, flag}
+use Rattle.exercise.specs.Places.{places}
 use Rattle.integer.specs.Sum.{sumTo, at, sumTo-next, sum-ext}
 use Rattle.integer.specs.Table.{getD-table}
 use Rattle.margin.specs.Margin.{signed, costIn}
 use Rattle.margin.specs.declared.trade.Trade.{Trade}
-use Rattle.series.specs.Changes.{withRequests, traded, marked, unmarked}
+use Rattle.series.specs.Changes.{withRequests, withMark, traded, marked, unmarked}
 use Rattle.series.specs.Good.{GoodSeries}
-use Rattle.series.specs.Series.{newSeries, positionOf, placeOf}
+use Rattle.series.specs.Series.{newSeries}
 use Rattle.series.specs.declared.state.Listing.{Listing}
 use Rattle.series.specs.declared.state.Mark.{Mark}
 use Rattle.series.specs.declared.state.Series.{Series}
 use Rattle.terms.specs.Bounds.{accounts, seriesRoom, blotterRoom}
 use Rattle.book.specs.Good.{Good}
-use Rattle.book.specs.Reckoning.{Quote, Reckoning, noQuotes, forSeries, forAccount, tradedFor, afterList, afterTrade, afterRequest, withMarks}
-use Rattle.book.specs.Sessions.{intradayMoney, changed, afterIntraday}
-use Rattle.book.specs.State.{noSeries, noTrade, noListing, seriesAt, tradeAt, live, withSeries}
+use Rattle.book.specs.Reckoning.{Reckoning, noQuotes, forSeries, forAccount, tradedFor, afterList, afterTrade, afterRequest, withMarks}
+use Rattle.book.specs.Sessions.{intradayMoney, afterIntraday}
+use Rattle.book.specs.State.{noSeries, noTrade, noListing, seriesAt, live, withSeries}
 use Rattle.book.specs.Step.{listed, withTrade}
 use Rattle.book.specs.declared.state.Book.{Book}
-use Rattle.book.proofs.Simulation.{SameSeries, SeriesIn, SameMark, MarkIn, Sim, no-mark, dormant}
+use Rattle.book.proofs.Simulation.{SameSeries, SeriesIn, MarkIn, Sim, no-mark, dormant}
 
 -- ---- one series or one account has something new
 
@@ -173,7 +173,12 @@ module _ (b : Book) (r : Reckoning) (G : Good b) (S : Sim b r) where
       long : length (s .positions) ≡ places
       long = G .series i known .positions .long
 
--- ---- Exercise, Decline
+-- ---- Exercise, Decline, Mark, Intraday
+
+-- a mark, made or dropped, leaves all else of a series
+with-mark : {s : Series} {l : Listing} {b : ℕ} {n B : ℕ → ℤ} {request : ℕ → ℕ} {decline : ℕ → Bool} {f : ℕ → ℤ} {m : Mark} → SameSeries s l b n B request decline f → SameSeries (withMark s m) l b n B request decline f
+with-mark now =
+    record { listing = now .listing; price = now .price; positions = now .positions; opening = now .opening; requests = now .requests; declined = now .declined; futures = now .futures }
 
 module _ (b : Book) (r : Reckoning) (G : Good b) (S : Sim b r) where
   pub keeps-request : (i a q : ℕ) (declined : Bool) → i < b .listed → a < accounts
@@ -217,8 +222,6 @@ module _ (b : Book) (r : Reckoning) (G : Good b) (S : Sim b r) where
       good : GoodSeries (b .day) s
       good = G .series i known
 
-  -- ---- Mark
-
   pub keeps-mark : (i p f w : ℕ) → i < b .listed
       → Sim (withSeries b i (marked (seriesAt b i) p f w)) (withMarks r (forSeries i (record { option = p; future = f; tickValue = w }) (r .mark)))
   unfolding withMarks
@@ -228,9 +231,7 @@ module _ (b : Book) (r : Reckoning) (G : Good b) (S : Sim b r) where
         listed = S .listed;
         series =
             each-series (SeriesIn r) (b .series) i (marked (seriesAt b i) p f w) (omega (arith, G .series-long, G .listed))
-            (let now = S .series i (omega (arith, G .listed)) in
-            record { listing = now .listing; price = now .price; positions = now .positions; opening = now .opening; requests = now .requests; declined = now .declined; futures = now .futures })
-            (λ j k e. S .series j k);
+            (with-mark (S .series i (omega (arith, G .listed)))) (λ j k e. S .series j k);
         marks =
             each-series (MarkIn (forSeries i (record { option = p; future = f; tickValue = w }) (r .mark))) (b .series) i (marked (seriesAt b i) p f w) (omega (arith, G .series-long, G .listed))
             (λ m. rw for-this (record { option = refl; future = refl; coefficient = refl }))
@@ -238,8 +239,6 @@ module _ (b : Book) (r : Reckoning) (G : Good b) (S : Sim b r) where
         trades = S .trades;
         money = S .money;
       }
-
-  -- ---- Intraday
 
   pub keeps-intraday : b .intraday ≡ false → Sim (afterIntraday b) (withMarks r noQuotes)
   unfolding withMarks choose
@@ -254,9 +253,7 @@ module _ (b : Book) (r : Reckoning) (G : Good b) (S : Sim b r) where
       }
     where
       same : (i : ℕ) → i < seriesRoom → (t : Bool) → SeriesIn r i (choose t (unmarked (seriesAt b i)) (seriesAt b i))
-      same i h true =
-          let now = S .series i h in
-          record { listing = now .listing; price = now .price; positions = now .positions; opening = now .opening; requests = now .requests; declined = now .declined; futures = now .futures }
+      same i h true = with-mark (S .series i h)
       same i h false = S .series i h
 
       dropped : (i : ℕ) → i < seriesRoom → (t : Bool) → live b i ≡ t → choose t (unmarked (seriesAt b i)) (seriesAt b i) .mark .made ≡ false
