@@ -11,8 +11,10 @@ use lib.Dec.{eqb, ltb, leb}
 use borrow.Author.Tests.{le-leb, lt-leb, ne-eqb, ltb-true, ltb-false, leb-true, eqb-true, eqb-false}
 use Rattle.choice.specs.Choice.{choose}
 use Rattle.decimal.specs.Text.{digitByte, decimal, decimal-small, decimal-step, twoDigits}
-use Rattle.decimal.specs.Read.{digitOf, digitsOn, numeralOn, numeralAt, twoDigitsAt}
+use Rattle.decimal.specs.Read.{digitOf, digitsOn, numeralOn, numeralAt, twoDigitsAt, onNumeral}
+use Rattle.decimal.specs.declared.Numeral.{Numeral}
 use Rattle.decimal.specs.declared.Numeral.the-variants.{Value, NoNumeral}
+use Rattle.decimal.proofs.Choices.{held}
 use Rattle.decimal.proofs.Places.{drop-next, here-byte, here-next}
 use Rattle.decimal.proofs.Digits.{digit-of, digit-byte, digit-in}
 
@@ -41,14 +43,19 @@ length-below (suc k) n h = by-test (ltb n 10) refl (length-below k (n / 10))
     by-test true e ih = omega (arith, length-small n (ltb-true n 10 e))
     by-test false e ih = omega (arith, length-step n (ltb-false n 10 e), ih (omega (arith, pow-suc 10 (suc k))))
 
-none-value : (v n : ℕ) → NoNumeral ≡ Value v n → ⊥
+pub none-value : (v n : ℕ) → NoNumeral ≡ Value v n → ⊥
 none-value v n e = let z : _≡_ {A = ℕ} 0 1 = cc in omega arith
 
--- a test that an answer passed
-keep : {A : Type 0} (t : Bool) (a b y : A) → choose t a b ≡ y → (b ≡ y → ⊥) → (t ≡ true) × (a ≡ y)
-unfolding choose
-keep true a b y e f = (refl, e)
-keep false a b y e f = absurd (f e)
+-- what followed a number that was read goes to the last argument
+pub after-numeral : {A R : Type 0} (x y : A) →
+    (x ≡ y → ⊥) →
+    (m : Numeral) (k : ℕ → ℕ → A) →
+    onNumeral m x k ≡ y →
+    ((v n : ℕ) → m ≡ Value v n → k v n ≡ y → R) →
+    R
+unfolding onNumeral
+after-numeral x y f (Value v n) k e g = g v n refl e
+after-numeral x y f NoNumeral k e g = absurd (f e)
 
 -- two digits
 pub two-read : (s : List ℕ) (at v : ℕ) (l : List ℕ) → v < 100 → drop at s ≡ twoDigits v ++ l → twoDigitsAt s at ≡ Value v (at + 2)
@@ -69,8 +76,8 @@ pub record TwoDigits (s : List ℕ) (at v n : ℕ) : Type 0 where
 pub two-text : (s : List ℕ) (at v n : ℕ) → twoDigitsAt s at ≡ Value v n → TwoDigits s at v n
 unfolding twoDigitsAt
 two-text s at v n h =
-    let p = keep (leb (digitOf (getD s at 0)) 9) _ NoNumeral (Value v n) h (none-value v n) in
-    let q = keep (leb (digitOf (getD s (at + 1) 0)) 9) _ NoNumeral (Value v n) (p .1) (none-value v n) in
+    let p = held (leb (digitOf (getD s at 0)) 9) _ NoNumeral (Value v n) h (none-value v n) in
+    let q = held (leb (digitOf (getD s (at + 1) 0)) 9) _ NoNumeral (Value v n) (p .1) (none-value v n) in
     let g : digitOf (getD s at 0) ≤ 9 = leb-true _ _ (p .0) in
     let g′ : digitOf (getD s (at + 1) 0) ≤ 9 = leb-true _ _ (q .0) in
     let x : digitOf (getD s at 0) * 10 + digitOf (getD s (at + 1) 0) ≡ v = cc in
