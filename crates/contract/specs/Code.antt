@@ -53,6 +53,10 @@ unfoldable pub onLayout : {A : Type 0} → LayoutRead → A → (ℕ → Terms �
 onLayout (Laid n t) none next = next n t
 onLayout NoLayout none next = none
 
+unfoldable pub onVerdict : {A : Type 0} → Verdict → A → (Refusal → A) → A
+onVerdict Accepted fine refused = fine
+onVerdict (Refused r) fine refused = refused r
+
 -- a strike is from 0.01 to 100000
 unfoldable pub strikeVerdict : ℕ → Verdict
 strikeVerdict strike =
@@ -60,10 +64,6 @@ strikeVerdict strike =
 
 unfoldable pub verdictOf : Terms → Verdict
 verdictOf terms = choose (isDate (terms .date)) (strikeVerdict (terms .strike)) (Refused NoDate)
-
-unfoldable pub onVerdict : {A : Type 0} → Verdict → A → (Refusal → A) → A
-onVerdict Accepted fine refused = fine
-onVerdict (Refused r) fine refused = refused r
 
 unfoldable pub readCode : List ℕ → Read
 readCode s = onLayout (layoutAt s) (NoCode Layout) (λ n terms. onVerdict (verdictOf terms) (Code n terms) (λ r. NoCode r))
