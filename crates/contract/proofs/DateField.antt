@@ -13,8 +13,10 @@ use Rattle.decimal.specs.Read.{twoDigitsAt, onNumeral}
 use Rattle.decimal.proofs.Choices.{failed}
 use Rattle.decimal.proofs.Places.{after-text}
 use Rattle.decimal.proofs.Numerals.{after-numeral, two-read, two-text}
-use Rattle.contract.specs.Date.{leapYear, monthLengths, daysIn, CalendarDate, isDate, TwoDigitsEach, dateText, dateAt, onDate}
+use Rattle.contract.specs.Date.{leapYear, monthLengths, daysIn, CalendarDate, isDate, dateVerdict, TwoDigitsEach, dateText, dateAt, onDate}
 use Rattle.contract.specs.declared.types.Date.{Date}
+use Rattle.contract.specs.declared.types.Refusal.the-variants.{NoDate}
+use Rattle.contract.specs.declared.types.Verdict.the-variants.{Accepted, Refused}
 use Rattle.contract.specs.declared.date.DateRead.{DateRead}
 use Rattle.contract.specs.declared.date.DateRead.the-variants.{Dated, Undated}
 
@@ -159,3 +161,13 @@ date-text s at d n e =
       rw (← z) (record { day = t .below; month = u .below; year = v .below }),
       rw (← z, ← y) (t .text ∙ ap (λ (l : List ℕ). twoDigits day ++ l) (u .text ∙ ap (λ (l : List ℕ). twoDigits month ++ l) (v .text))),
     ))))
+
+-- steps of the verdict on the date
+module _ (d : Date) (b : Bool) (p : b ≡ isDate d) where
+  pub date-accepted : b ≡ true → Accepted ≡ dateVerdict d
+  unfolding dateVerdict choose
+  date-accepted e = rw (← p, e)
+
+  pub date-refused : b ≡ false → Refused NoDate ≡ dateVerdict d
+  unfolding dateVerdict choose
+  date-refused e = rw (← p, e)

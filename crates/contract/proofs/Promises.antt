@@ -10,9 +10,9 @@ use lib.Seq.{take-at}
 use lib.Dec.{ltb}
 use borrow.Author.Tests.{le-ltb, ltb-true, ltb-false}
 use Rattle.choice.specs.Choice.{choose}
-use Rattle.contract.specs.Date.{CalendarDate, isDate}
-use Rattle.contract.specs.Strike.{counted}
-use Rattle.contract.specs.Code.{number, codeText, Says, layoutAt, onLayout, strikeVerdict, verdictOf, onVerdict, readCode, onRead, futureOf, writeVerdict, accepted, refused, written}
+use Rattle.contract.specs.Date.{CalendarDate, isDate, dateVerdict}
+use Rattle.contract.specs.Strike.{counted, strikeVerdict}
+use Rattle.contract.specs.Code.{number, codeText, Says, layoutAt, onLayout, inOrder, verdictOf, onVerdict, readCode, onRead, futureOf, writeVerdict, accepted, refused, written}
 use Rattle.contract.specs.Promises.{answer, verdictNumber, codeOf, NoDateSaid, NoStrikeSaid, CodeOfTerms}
 use Rattle.contract.specs.declared.types.Terms.{Terms}
 use Rattle.contract.specs.declared.types.Refusal.the-variants.{Layout, NoDate, StrikeText}
@@ -79,7 +79,7 @@ data Judged (t : Terms) : Type 0 where
   fine : CalendarDate (t .date) → 1 ≤ t .strike → t .strike ≤ 10000000 → verdictOf t ≡ Accepted → Judged t
 
 judge : (t : Terms) → Judged t
-unfolding verdictOf strikeVerdict choose
+unfolding verdictOf inOrder dateVerdict strikeVerdict choose
 judge t = by-date (isDate (t .date)) refl
   where
     by-strike : isDate (t .date) ≡ true →

@@ -7,9 +7,9 @@ use lib.Dec.{ltb, eqb}
 use Rattle.choice.specs.Choice.{choose}
 use Rattle.contract.specs.Scan.{onMark, byteAt}
 use Rattle.contract.specs.Future.{FutureCode, futureAt}
-use Rattle.contract.specs.Date.{TwoDigitsEach, isDate, dateText, dateAt, onDate}
+use Rattle.contract.specs.Date.{TwoDigitsEach, dateVerdict, dateText, dateAt, onDate}
 use Rattle.contract.specs.Kind.{kindText, kindAt, onKind}
-use Rattle.contract.specs.Strike.{strikeText, strikeAt, onStrike}
+use Rattle.contract.specs.Strike.{strikeText, strikeAt, onStrike, strikeVerdict}
 use Rattle.contract.specs.declared.types.Terms.{Terms}
 use Rattle.contract.specs.declared.types.Refusal.{Refusal}
 use Rattle.contract.specs.declared.types.Refusal.the-variants.{Layout, NoDate, StrikeText}
@@ -57,13 +57,13 @@ unfoldable pub onVerdict : {A : Type 0} → Verdict → A → (Refusal → A) �
 onVerdict Accepted fine refused = fine
 onVerdict (Refused r) fine refused = refused r
 
--- a strike is from 0.01 to 100000
-unfoldable pub strikeVerdict : ℕ → Verdict
-strikeVerdict strike =
-    choose (ltb strike 1) (Refused StrikeText) (choose (ltb strike 10000001) Accepted (Refused StrikeText))
+-- of two verdicts in order, the first that refuses
+unfoldable pub inOrder : Verdict → Verdict → Verdict
+inOrder Accepted second = second
+inOrder (Refused r) second = Refused r
 
 unfoldable pub verdictOf : Terms → Verdict
-verdictOf terms = choose (isDate (terms .date)) (strikeVerdict (terms .strike)) (Refused NoDate)
+verdictOf terms = inOrder (dateVerdict (terms .date)) (strikeVerdict (terms .strike))
 
 unfoldable pub readCode : List ℕ → Read
 readCode s = onLayout (layoutAt s) (NoCode Layout) (λ n terms. onVerdict (verdictOf terms) (Code n terms) (λ r. NoCode r))

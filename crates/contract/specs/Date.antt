@@ -8,6 +8,9 @@ use Rattle.choice.specs.Choice.{choose}
 use Rattle.decimal.specs.Text.{twoDigits}
 use Rattle.decimal.specs.Read.{twoDigitsAt, onNumeral}
 use Rattle.contract.specs.declared.types.Date.{Date}
+use Rattle.contract.specs.declared.types.Refusal.the-variants.{NoDate}
+use Rattle.contract.specs.declared.types.Verdict.{Verdict}
+use Rattle.contract.specs.declared.types.Verdict.the-variants.{Accepted, Refused}
 use Rattle.contract.specs.declared.date.DateRead.{DateRead}
 use Rattle.contract.specs.declared.date.DateRead.the-variants.{Dated, Undated}
 
@@ -30,6 +33,10 @@ pub record CalendarDate (date : Date) : Type 0 where
 -- the same as a test
 unfoldable pub isDate : Date → Bool
 isDate date = choose (eqb (date .day) 0) false (leb (date .day) (daysIn (2000 + date .year) (date .month)))
+
+-- 01, "Refusals", 18
+unfoldable pub dateVerdict : Date → Verdict
+dateVerdict date = choose (isDate date) Accepted (Refused NoDate)
 
 -- each number of the date can be written in two digits
 pub record TwoDigitsEach (date : Date) : Type 0 where

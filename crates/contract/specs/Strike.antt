@@ -3,11 +3,14 @@
 use Prim.Native.Nat.{ℕ, _+_, _*_, _/_, _%_, min}
 use mathlib.Core.List.{List, [], _∷_, _++_}
 use lib.ListN.{length, getD}
-use lib.Dec.{leb, eqb}
+use lib.Dec.{leb, ltb, eqb}
 use Rattle.choice.specs.Choice.{choose}
 use Rattle.decimal.specs.Text.{digitByte, decimal}
 use Rattle.decimal.specs.Read.{digitOf, numeralAt, onNumeral}
 use Rattle.contract.specs.Scan.{onMark, byteAt}
+use Rattle.contract.specs.declared.types.Refusal.the-variants.{StrikeText}
+use Rattle.contract.specs.declared.types.Verdict.{Verdict}
+use Rattle.contract.specs.declared.types.Verdict.the-variants.{Accepted, Refused}
 use Rattle.contract.specs.declared.strike.HundredthsRead.{HundredthsRead}
 use Rattle.contract.specs.declared.strike.HundredthsRead.the-variants.{Hundredths, NoHundredths}
 use Rattle.contract.specs.declared.strike.StrikeRead.{StrikeRead}
@@ -57,3 +60,8 @@ strikeAt s at =
 unfoldable pub onStrike : {A : Type 0} → StrikeRead → A → (ℕ → A) → A
 onStrike (Strike h) none next = next h
 onStrike NoStrike none next = none
+
+-- 01, "Refusals", 19: a strike is from 0.01 to 100000
+unfoldable pub strikeVerdict : ℕ → Verdict
+strikeVerdict strike =
+    choose (ltb strike 1) (Refused StrikeText) (choose (ltb strike 10000001) Accepted (Refused StrikeText))

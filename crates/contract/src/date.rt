@@ -3,8 +3,10 @@ ghost use mathlib.Core.Path.{_≡_};
 ghost use Prim.Native.Nat.{_+_, _≤_};
 ghost use lib.ListN.{length};
 ghost use Rattle.decimal.specs.Put.{Put};
-ghost use Rattle.contract.specs.Date.{leapYear, daysIn, isDate, TwoDigitsEach, dateText, dateAt};
+ghost use Rattle.contract.specs.Date.{leapYear, daysIn, isDate, dateVerdict, TwoDigitsEach, dateText, dateAt};
 use crate::types::Date;
+use crate::types::Refusal;
+use crate::types::Verdict;
 use decimal::Numeral;
 use decimal::put;
 use decimal::read;
@@ -72,13 +74,23 @@ fn month_days(year: u64, month: u64) -> u64
     }
 }
 
-pub fn in_calendar(date: Date) -> bool
+fn in_calendar(date: Date) -> bool
     ensures { λ r. ⌜ r ≡ isDate date ⌝ }
 {
     if date.day == 0 {
         return false;
     }
     date.day <= month_days(date.year, date.month)
+}
+
+pub fn verdict(date: Date) -> Verdict
+    ensures { λ r. ⌜ r ≡ dateVerdict date ⌝ }
+{
+    let dated = in_calendar(date);
+    if dated {
+        return Verdict::Accepted;
+    }
+    Verdict::Refused(Refusal::NoDate)
 }
 
 pub fn put_digits(out: &mut [u8], at: usize, date: Date) -> usize

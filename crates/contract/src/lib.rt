@@ -1,6 +1,6 @@
 // Contract codes, as GAZR-3.23M150323CA17000: the reader, the writer, and the futures code that a code begins with.
 ghost use mathlib.Core.Path.{_≡_};
-ghost use Rattle.contract.specs.Code.{verdictOf, readCode, futureOf, termsVerdict, writeVerdict, written};
+ghost use Rattle.contract.specs.Code.{inOrder, verdictOf, readCode, futureOf, termsVerdict, writeVerdict, written};
 
 mod date; // date.rt: the last trading day
 mod future; // future.rt: the futures code
@@ -18,19 +18,24 @@ use crate::types::Terms;
 use crate::types::Verdict;
 use crate::types::Written;
 
-// Whether the date is in the calendar and the strike within its bounds.
+// Of two verdicts in order, the first that refuses.
+fn in_order(first: Verdict, second: Verdict) -> Verdict
+    ensures { λ r. ⌜ r ≡ inOrder first second ⌝ }
+{
+    match first {
+        Verdict::Accepted => second,
+        Verdict::Refused(refusal) => Verdict::Refused(refusal),
+    }
+}
+
+// Whether the date is in the calendar, and then whether the strike is within its bounds.
 fn verdict(terms: Terms) -> Verdict
     ensures { λ r. ⌜ r ≡ verdictOf terms ⌝ }
 {
     let date = terms.date;
-    let dated = date::in_calendar(date);
-    if !dated {
-        return Verdict::Refused(Refusal::NoDate);
-    }
-    match terms.strike {
-        1..=10000000 => Verdict::Accepted,
-        _ => Verdict::Refused(Refusal::StrikeText),
-    }
+    let dated = date::verdict(date);
+    let bounded = strike::verdict(terms.strike);
+    in_order(dated, bounded)
 }
 
 // The terms of a code.

@@ -3,9 +3,11 @@ ghost use mathlib.Core.Path.{_≡_};
 ghost use Prim.Native.Nat.{_+_, _*_, _≤_, _<_};
 ghost use lib.ListN.{length};
 ghost use Rattle.decimal.specs.Put.{Put};
-ghost use Rattle.contract.specs.Strike.{hundredthsText, strikeText, fractionAt, hundredthsAt, strikeAt};
+ghost use Rattle.contract.specs.Strike.{hundredthsText, strikeText, fractionAt, hundredthsAt, strikeAt, strikeVerdict};
 use crate::scan;
 use crate::scan::Mark;
+use crate::types::Refusal;
+use crate::types::Verdict;
 use decimal::Numeral;
 use decimal::put;
 use decimal::read;
@@ -72,6 +74,15 @@ pub fn last(s: &[u8], at: usize) -> StrikeRead
         return StrikeRead::NoStrike;
     };
     StrikeRead::Strike(units * 100 + part)
+}
+
+pub fn verdict(strike: u64) -> Verdict
+    ensures { λ r. ⌜ r ≡ strikeVerdict strike ⌝ }
+{
+    match strike {
+        1..=10000000 => Verdict::Accepted,
+        _ => Verdict::Refused(Refusal::StrikeText),
+    }
 }
 
 fn put_hundredths(out: &mut [u8], at: usize, part: u64) -> usize

@@ -1,23 +1,20 @@
 -- `contract::verdict` meets its contract.
 use borrow.Author.Needs.{needs}
-use Rattle.contract.proofs.Steps.{verdicts}
+use Rattle.contract.proofs.Steps.{verdict-of}
 use Rattle.contract.proofs.verdict.Statement.{statement}
 use Rattle.contract.proofs.verdict.Tie as tie
 
-in-calendar-requires : tie.Need-in-calendar-requires
-in-calendar-requires c κs = search needs
+verdict-requires : tie.Need-verdict-requires
+verdict-requires c κs = search needs
+
+verdict-requires-2 : tie.Need-verdict-requires-2
+verdict-requires-2 c κs = search needs
+
+in-order-requires : tie.Need-in-order-requires
+in-order-requires c κs = search needs
 
 returns : tie.Need-returns
-returns c = search verdicts
-
-returns-2 : tie.Need-returns-2
-returns-2 c = search verdicts
-
-returns-3 : tie.Need-returns-3
-returns-3 c = search verdicts
-
-returns-4 : tie.Need-returns-4
-returns-4 c = search verdicts
+returns c = search verdict-of
 
 pub verdict-spec : {M : Type 1} → statement M
-verdict-spec = tie.close (tie.spec in-calendar-requires returns returns-2 returns-3 returns-4)
+verdict-spec = tie.close (tie.spec verdict-requires verdict-requires-2 in-order-requires returns)
