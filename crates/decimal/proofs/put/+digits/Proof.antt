@@ -44,7 +44,7 @@ digits-digits-requires : (t : ℕ) → digits-lts.Need-digits-requires (
   byte-reads.Asked,
   byte-reads.Learnt,
 ) (digits-at t) digits.Post
-digits-digits-requires t c κs = omega (arith, length-step _ (c .before .if1 .taken))
+digits-digits-requires t c κs = omega (arith, length-step (c .before .before .before .args .n) (omega arith))
 
 digits-byte-requires : (t : ℕ) → digits-lts.Need-byte-requires (
   digits-below t,
@@ -52,7 +52,7 @@ digits-byte-requires : (t : ℕ) → digits-lts.Need-byte-requires (
   byte-reads.Asked,
   byte-reads.Learnt,
 ) (digits-at t) digits.Post
-digits-byte-requires t c κs = omega (arith, length-step _ (c .before .before .before .before .before .if1 .taken))
+digits-byte-requires t c κs = omega (arith, length-step (c .before .before .before .before .before .before .before .args .n) (omega arith))
 
 digits-same-length : (t : ℕ) → digits-lts.Need-same-length (
   digits-below t,
@@ -76,7 +76,7 @@ digits-byte-requires-2 : (t : ℕ) → digits-lts.Need-byte-requires-2 (
   byte-reads.Asked,
   byte-reads.Learnt,
 ) (digits-at t) digits.Post
-digits-byte-requires-2 t c κs = omega (arith, length-small _ (c .before .if1 .left))
+digits-byte-requires-2 t c κs = omega (arith, length-small (c .before .before .before .args .n) (omega arith))
 
 digits-same-length-2 : (t : ℕ) → digits-lts.Need-same-length-2 (
   digits-below t,
