@@ -1,10 +1,10 @@
--- An event on one series that is carried out keeps what holds of every book.
+-- An event on one series (a listing, a trade, a request, a refusal or a mark) that is carried out keeps what holds of every book.
 use mathlib.Core.Path.{_≡_, refl, _∙_}
 use mathlib.Core.Logic.{_≢_}
+use mathlib.Core.List.{List}
 use Prim.Native.Nat.{ℕ, _+_, _≤_, _<_}
 use native.Mathlib.Decide.{ℕ-discrete}
 use native.Mathlib.Omega.{arith}
-use mathlib.Core.List.{List}
 use lib.ListN.{length, set, getD, length-set}
 use lib.Seq.{getD-set-same, getD-set-other}
 use Rattle.margin.specs.declared.trade.Trade.{Trade}

@@ -42,7 +42,7 @@ each-changed b change P p q i lt =
 past-table : (f : ℕ → ℤ) (a : ℕ) → accounts ≤ a → at (table accounts f) a ≡ pos 0
 past-table f a le = List·getD-eq-default (table accounts f) (pos 0) {n = a} (rw (length-table accounts f) le)
 
--- an account, or none
+-- by whether a is an account
 by-account : (P : ℕ → Type 0) → ((a : ℕ) → a < accounts → P a) → ((a : ℕ) → accounts ≤ a → P a) → (a : ℕ) → P a
 by-account P f g a = by (decLt a accounts)
   where
@@ -65,7 +65,7 @@ module _ (b : Book) (g : Good b) where
   paid-into-balances f e =
       sum-table accounts (λ a. cash b a +ℤ f a) ∙ sum-add accounts (cash b) f ∙ rw (g .cash-balances, e) refl
 
-  -- a series that no session changes is as it was
+  -- a series that is not listed is as it was
   still-unlisted : (change : Series → Series) (i : ℕ) → b .listed ≤ i → i < seriesRoom
       → getD (changed b change) i noSeries ≡ newSeries noListing
   still-unlisted change i le lt =

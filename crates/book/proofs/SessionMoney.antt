@@ -3,11 +3,11 @@ use mathlib.Core.Path.{_≡_, refl, sym, ap, _∙_}
 use mathlib.Core.Bool.{Bool, true, false}
 use mathlib.Core.List.{List}
 use Prim.Native.Nat.{ℕ, _<_}
-use lib.IntN.{ℤ, pos}
+use lib.IntN.{ℤ, pos, _+ℤ_}
 use lib.ListN.{getD}
 use Rattle.choice.specs.Choice.{choose}
 use Rattle.integer.specs.Bounds.{Bounded}
-use Rattle.integer.specs.Sum.{sum-ext}
+use Rattle.integer.specs.Sum.{sum-ext, at}
 use Rattle.integer.specs.Table.{table, table-ext, getD-table}
 use Rattle.series.specs.Changes.{unmarked, settled, closing}
 use Rattle.series.specs.Series.{positionOf}
@@ -15,7 +15,7 @@ use Rattle.series.specs.declared.state.Series.{Series}
 use Rattle.series.proofs.Keeps.{good-settled}
 use Rattle.terms.specs.Bounds.{accounts, seriesRoom, maxPosition}
 use Rattle.book.specs.Good.{Good}
-use Rattle.book.specs.Sessions.{overLive, marginIn, changed, intradayMoney, eveningMargin}
+use Rattle.book.specs.Sessions.{overLive, marginIn, changed, intradayMoney, eveningMargin, paidInto}
 use Rattle.book.specs.State.{noSeries, seriesAt, live}
 use Rattle.book.specs.declared.state.Book.{Book}
 use Rattle.book.proofs.KeepsSessions.{each-changed}
@@ -67,3 +67,10 @@ module _ (b : Book) (good : Good b) (after : List Series) where
         ap (λ (s : Series). marginIn b i a (positionOf s a))
         (ap (λ (l : List Series). getD l i noSeries) e ∙ changed-live b (λ s. settled s (b .day)) i room t)
         ∙ ap (λ (n : ℤ). marginIn b i a n) (getD-table accounts (closing (seriesAt b i) (b .day)) a (pos 0) lt)))
+
+-- cash and the money of a table, as the code adds them
+pub paid-into : (cash : List ℤ) (f : ℕ → ℤ) (money : List ℤ) → money ≡ table accounts f
+    → table accounts (λ a. at cash a +ℤ at money a) ≡ paidInto cash f
+paid-into cash f money e =
+    table-ext accounts _ _ (λ a lt.
+    ap (λ (z : ℤ). at cash a +ℤ z) (ap (λ (l : List ℤ). at l a) e ∙ getD-table accounts f a (pos 0) lt))

@@ -49,3 +49,39 @@ pub fn empty() -> Book
         cash: [0i64; ACCOUNTS],
     }
 }
+// What the book answers to an event.
+pub fn step(book: Book, event: Event) -> Step
+    requires { ⌜ Good book ⌝ }
+    ensures { λ r. ⌜ (r ≡ stepOf book event) × Good (r .book) ⌝ }
+{
+    match event {
+        Event::List {
+            option,
+            category,
+            strike,
+            tick,
+            last,
+        } => event::list(book, option, category, strike, tick, last),
+        Event::Trade {
+            series,
+            buyer,
+            seller,
+            quantity,
+            price,
+        } => event::trade(book, series, buyer, seller, quantity, price),
+        Event::Exercise {
+            series,
+            account,
+            quantity,
+        } => event::exercise(book, series, account, quantity),
+        Event::Decline { series, account } => event::decline(book, series, account),
+        Event::Mark {
+            series,
+            option,
+            future,
+            tick_value,
+        } => event::mark(book, series, option, future, tick_value),
+        Event::Intraday => event::intraday(book),
+        Event::Evening => event::evening(book),
+    }
+}

@@ -1,4 +1,5 @@
--- A list by its index function. `table` is shut, so `table 64 f` stays as it stands: it is read by its laws alone.
+-- A list by its index function. `table` is shut, so `table 64 f` stays as it stands: it is read by its laws, and opened only where an
+-- example is computed.
 use mathlib.Core.Path.{_≡_, refl, sym, ap, _∙_}
 use mathlib.Core.List.{List, [], _∷_}
 use Prim.Native.Nat.{ℕ, zero, suc, _+_, _<_, _≤_}
@@ -9,7 +10,7 @@ use lib.ListN.{length, getD, set, replicate, length-set, length-replicate, getD-
 use lib.Seq.{ext-getD, getD-set-same, getD-set-other}
 
 module _ {A : Type 0} where
-  pub table : ℕ → (ℕ → A) → List A
+  unfoldable pub table : ℕ → (ℕ → A) → List A
   table zero f = []
   table (suc n) f = f zero ∷ table n (λ k. f (suc k))
 

@@ -1,21 +1,17 @@
 -- `book::intraday` meets its contract: its tests are those of the verdict, and its work that of the session.
-use mathlib.Core.Path.{_≡_, refl, sym, ap, _∙_}
+use mathlib.Core.Path.{_≡_, _∙_}
 use mathlib.Core.Bool.{true}
-use mathlib.Core.List.{List}
-use Prim.Native.Nat.{ℕ}
 use native.Mathlib.Omega.{arith}
-use lib.IntN.{ℤ, pos, _+ℤ_}
 use Rattle.choice.specs.Choice.{hit, past, tests}
 use Rattle.integer.specs.Bounds.{bounded-table, within-le}
-use Rattle.integer.specs.Sum.{at}
-use Rattle.integer.specs.Table.{table, table-ext, getD-table}
+use Rattle.integer.specs.Table.{table}
 use Rattle.terms.specs.Bounds.{accounts}
-use Rattle.book.specs.Sessions.{intradayMoney}
+use Rattle.book.specs.Sessions.{intradayMoney, paidInto}
 use Rattle.book.specs.declared.state.Answer.the-variants.{Done}
 use Rattle.book.specs.declared.state.Event.the-variants.{Intraday}
 use Rattle.book.proofs.Money.{intraday-within, cash-bounded}
 use Rattle.book.proofs.Outcome.{by-refusal, by-allowance, mark-missing, none-missing}
-use Rattle.book.proofs.SessionMoney.{unmarked-bounded, intraday-is}
+use Rattle.book.proofs.SessionMoney.{unmarked-bounded, intraday-is, paid-into}
 use borrow.Author.Needs.{needs}
 use Rattle.book.proofs.event.intraday.Statement.{statement}
 use Rattle.book.proofs.event.intraday.Tie as tie
@@ -28,6 +24,11 @@ money : (c : tie.After-variation-margin) → c .variation-margin .result ≡ tab
 money c =
     let s = start (c .before .before) in
     c .variation-margin .ensures ∙ intraday-is (s .args .book) (s .pre) _ (c .before .unmark-all .ensures)
+
+cash : (c : tie.After-pay) → c .pay .result ≡ paidInto (start (c .before .before .before .before) .args .book .cash) (intradayMoney (start (c .before .before .before .before) .args .book))
+cash c =
+    let k = start (c .before .before .before .before) .args .book in
+    c .pay .ensures ∙ paid-into (k .cash) (intradayMoney k) _ (money (c .before .before))
 
 refused-requires : tie.Need-refused-requires
 refused-requires c κs = search needs
@@ -66,14 +67,32 @@ variation-margin-requires c κs =
 
 pay-requires : tie.Need-pay-requires
 pay-requires c κs =
-    let s = start (c .before .before .before) in
-    (
+    let s = start (c .before .before .before) in (
       cash-bounded (s .args .book) (s .pre),
       rw (money (c .before)) (bounded-table accounts (intradayMoney (s .args .book)) (λ a lt. within-le (intraday-within (s .args .book) (s .pre) a) (omega arith))),
     )
 
 returns-4 : tie.Need-returns-4
-returns-4 c = ?
+returns-4 c =
+    let v = c .before .before in
+    let s = start (v .before .before) in
+    let k = s .args .book in
+    by-allowance _ Intraday
+    (λ i. record {
+      answer = Done;
+      money = money v i;
+      book = record {
+        day = k .day;
+        listed = k .listed;
+        series = v .before .unmark-all .ensures i;
+        blotter = k .blotter;
+        trades = k .trades;
+        intraday = true;
+        paid = money v i;
+        cash = cash c i;
+      };
+    })
+    (past _ (search tests) (past _ (search tests) (search none-missing)))
 
 pub intraday-spec : {M : Type 1} → statement M
 intraday-spec =
