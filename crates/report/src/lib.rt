@@ -1,0 +1,3 @@
+// The output lines of one row, into a buffer that the caller lends.
+pub mod field;
+pub mod lines;
