@@ -18,10 +18,13 @@ abbrev pub header : List ℕ
 header =
     114 ∷ 111 ∷ 119 ∷ 44 ∷ 107 ∷ 105 ∷ 110 ∷ 100 ∷ 44 ∷ 115 ∷ 101 ∷ 114 ∷ 105 ∷ 101 ∷ 115 ∷ 44 ∷ 97 ∷ 99 ∷ 99 ∷ 111 ∷ 117 ∷ 110 ∷ 116 ∷ 44 ∷ 97 ∷ 109 ∷ 111 ∷ 117 ∷ 110 ∷ 116 ∷ crlf
 
+-- row and kind, each with the comma after it
+abbrev pub heading : ℕ → ℕ → List ℕ
+heading row kind = decimal row ++ 44 ∷ kind ∷ 44 ∷ []
+
 -- row, kind, series, account and amount, with commas between them
 unfoldable pub line : ℕ → ℕ → List ℕ → List ℕ → List ℕ → List ℕ
-line row kind series account amount =
-    decimal row ++ 44 ∷ kind ∷ 44 ∷ (series ++ 44 ∷ (account ++ 44 ∷ (amount ++ crlf)))
+line row kind series account amount = heading row kind ++ (series ++ 44 ∷ (account ++ 44 ∷ (amount ++ crlf)))
 
 -- the kinds A, M and F
 abbrev pub kindA : ℕ
@@ -42,7 +45,7 @@ unfoldable pub countText : ℤ → List ℕ
 countText z = sign z ++ decimal (natAbs z)
 
 unfoldable pub amountText : ℤ → List ℕ
-amountText z = sign z ++ decimal (natAbs z / 100) ++ 46 ∷ twoDigits (natAbs z % 100)
+amountText z = sign z ++ (decimal (natAbs z / 100) ++ 46 ∷ twoDigits (natAbs z % 100))
 
 -- a series where one is named
 unfoldable pub seriesText : Found → List ℕ

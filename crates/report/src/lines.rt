@@ -1,0 +1,63 @@
+// The lines of a row's output. Each function puts its text at a place of the buffer and returns the place after it.
+use book::state::Found;
+use crate::field;
+use decimal::put;
+use series::state::Series;
+use terms::bounds::ACCOUNTS;
+use terms::bounds::SERIES;
+ghost use mathlib.Core.List.{[], _∷_, _++_};
+ghost use Prim.Native.Nat.{_+_, _*_, _≤_};
+ghost use lib.ListN.{length};
+ghost use Rattle.decimal.specs.Put.{Put};
+ghost use Rattle.decimal.specs.Text.{decimal};
+ghost use Rattle.report.specs.Lines.{header, heading, crlf};
+ghost use Rattle.report.specs.Report.{answerLine};
+
+// The line that the output begins with.
+pub fn header_line(out: &mut [u8], at: usize) -> usize
+    requires { ⌜ at + 32 ≤ length (now out) ⌝ }
+    ensures { λ r. ⌜ Put (now (out .entry)) at header (now (out .exit)) r ⌝ }
+{
+    put::bytes(out, at, b"row,kind,series,account,amount\r\n")
+}
+
+// Row and kind.
+fn begin(out: &mut [u8], at: usize, row: u64, kind: u8) -> usize
+    requires { ⌜ at + 23 ≤ length (now out) ⌝ }
+    ensures { λ r. ⌜ Put (now (out .entry)) at (heading row kind) (now (out .exit)) r ⌝ }
+{
+    let comma = put::digits(out, at, row);
+    let letter = put::byte(out, comma, b',');
+    let next = put::byte(out, letter, kind);
+    put::byte(out, next, b',')
+}
+
+// An account, with the commas around it.
+fn account(out: &mut [u8], at: usize, a: u8) -> usize
+    requires { ⌜ at + 5 ≤ length (now out) ⌝ }
+    ensures { λ r. ⌜ Put (now (out .entry)) at (44 ∷ (decimal a ++ 44 ∷ [])) (now (out .exit)) r ⌝ }
+{
+    let digits = put::byte(out, at, b',');
+    let comma = put::digits(out, digits, a as u64);
+    put::byte(out, comma, b',')
+}
+
+// The end of a line.
+fn end(out: &mut [u8], at: usize) -> usize
+    requires { ⌜ at + 2 ≤ length (now out) ⌝ }
+    ensures { λ r. ⌜ Put (now (out .entry)) at crlf (now (out .exit)) r ⌝ }
+{
+    put::bytes(out, at, b"\r\n")
+}
+
+// The answer's number, with the series that it names.
+pub fn answer(out: &mut [u8], at: usize, row: u64, found: Found, number: u64) -> usize
+    requires { ⌜ at + 64 ≤ length (now out) ⌝ }
+    ensures { λ r. ⌜ Put (now (out .entry)) at (answerLine row found number) (now (out .exit)) r ⌝ }
+{
+    let series = begin(out, at, row, b'A');
+    let commas = field::series(out, series, found);
+    let digits = put::bytes(out, commas, b",,");
+    let next = put::digits(out, digits, number);
+    end(out, next)
+}

@@ -1,37 +1,38 @@
+-- `report::field::series` meets its contract.
 use borrow.Author.Needs.{needs}
+use mir.Syntax.{w64}
+use native.Mathlib.Omega.{arith}
+use Rattle.integer.specs.Machine.{any}
+use Rattle.report.specs.Lines.{seriesText}
+use Rattle.report.proofs.Fields.{room, nothing, _then_, sign-length, magnitude-length, roubles-length, byte-length}
 use Rattle.report.proofs.field.series.Statement.{statement}
 use Rattle.report.proofs.field.series.Tie as tie
 use Rattle.report.proofs.field.series.Reads as reads
 use Rattle.report.proofs.field.series.Lts as lts
 use Rattle.decimal.proofs.put.digits.Reads as digits-reads
 
--- src/field.rt:62:19
 enum-known-found : tie.Need-enum-known-found
 enum-known-found c = search needs
 
--- src/field.rt:62:46
 cast-digits : tie.Need-cast-digits
 cast-digits c = search needs
 
--- src/field.rt:62:25
 digits-requires : tie.Need-digits-requires
-digits-requires c κs = ?
+digits-requires c κs = omega (arith, byte-length (c .before .before .found .given .0 .0) (search needs))
 
--- src/field.rt:63:27
 enum-told : tie.Need-enum-told
 enum-told c = search needs
 
--- src/field.rt:57:1
 same-length : tie.Need-same-length
 same-length c = search needs
 
--- src/field.rt:57:1
 returns : tie.Need-returns
-returns c = ?
+unfolding seriesText
+returns c = rw (c .before .before .before .before .before .found .given .1) (c .before .before .digits .ensures)
 
--- src/field.rt:57:1
 returns-2 : tie.Need-returns-2
-returns-2 c = ?
+unfolding seriesText
+returns-2 c = rw (c .enum-told .given .1) (nothing _ _)
 
 pub series-spec : {M : Type 1} → statement M
 series-spec =
