@@ -57,6 +57,7 @@ pub fn amount(out: &mut [u8], at: usize, z: i64) -> usize
 pub fn series(out: &mut [u8], at: usize, found: Found) -> usize
     requires { ⌜ at + 3 ≤ length (now out) ⌝ }
     ensures { λ r. ⌜ Put (now (out .entry)) at (seriesText found) (now (out .exit)) r ⌝ }
+    ensures { λ r. ⌜ r ≤ at + 3 ⌝ }
 {
     match found {
         Found::At(i) => put::digits(out, at, i as u64),

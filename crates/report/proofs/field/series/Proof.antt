@@ -1,15 +1,12 @@
 -- `report::field::series` meets its contract.
-use borrow.Author.Needs.{needs}
-use mir.Syntax.{w64}
-use native.Mathlib.Omega.{arith}
-use Rattle.integer.specs.Machine.{any}
+use Rattle.report.proofs.Fields.{nothing, byte-length}
 use Rattle.report.specs.Lines.{seriesText}
-use Rattle.report.proofs.Fields.{room, nothing, _then_, sign-length, magnitude-length, roubles-length, byte-length}
+use lib.ListN.{length}
+use mathlib.Core.Path.{_∙_, ap}
+use native.Mathlib.Omega.{arith}
+use borrow.Author.Needs.{needs}
 use Rattle.report.proofs.field.series.Statement.{statement}
 use Rattle.report.proofs.field.series.Tie as tie
-use Rattle.report.proofs.field.series.Reads as reads
-use Rattle.report.proofs.field.series.Lts as lts
-use Rattle.decimal.proofs.put.digits.Reads as digits-reads
 
 enum-known-found : tie.Need-enum-known-found
 enum-known-found c = search needs
@@ -28,11 +25,12 @@ same-length c = search needs
 
 returns : tie.Need-returns
 unfolding seriesText
-returns c = rw (c .before .before .before .before .before .found .given .1) (c .before .before .digits .ensures)
+returns c = let found = c .before .before .before .before .before in
+    (rw (found .found .given .1) (c .before .before .digits .ensures), omega (arith, byte-length (found .found .given .0 .0) (search needs)))
 
 returns-2 : tie.Need-returns-2
 unfolding seriesText
-returns-2 c = rw (c .enum-told .given .1) (nothing _ _)
+returns-2 c = (rw (c .enum-told .given .1) (nothing _ _), omega arith)
 
 pub series-spec : {M : Type 1} → statement M
 series-spec =

@@ -1,45 +1,38 @@
+-- `report::lines::answer` meets its contract.
+use Rattle.report.proofs.OneLine.{heading-length, answer-put}
+use Rattle.report.proofs.Fields.{row-length}
+use Rattle.report.specs.Lines.{kindA}
+use native.Mathlib.Omega.{arith}
 use borrow.Author.Needs.{needs}
 use Rattle.report.proofs.lines.answer.Statement.{statement}
 use Rattle.report.proofs.lines.answer.Tie as tie
-use Rattle.report.proofs.lines.answer.Reads as reads
-use Rattle.report.proofs.lines.answer.Lts as lts
-use Rattle.decimal.proofs.put.bytes.Reads as bytes-reads
-use Rattle.decimal.proofs.put.digits.Reads as digits-reads
-use Rattle.report.proofs.field.series.Reads as series-reads
-use Rattle.report.proofs.lines.begin.Reads as begin-reads
-use Rattle.report.proofs.lines.end.Reads as end-reads
 
--- src/lines.rt:58:9
 begin-requires : tie.Need-begin-requires
 begin-requires c κs = search needs
 
--- src/lines.rt:59:9
 series-requires : tie.Need-series-requires
-series-requires c κs = ?
+series-requires c κs = let start = c .before .before .before .before .before .before in omega (arith, heading-length (start .args .row) kindA (search needs))
 
--- src/lines.rt:60:42
 slice-aggregate-bytes : tie.Need-slice-aggregate-bytes
 slice-aggregate-bytes c = search needs
 
--- src/lines.rt:60:9
 bytes-requires : tie.Need-bytes-requires
-bytes-requires c κs = ?
+bytes-requires c κs = let start = c .before .before .before .before .before .before .before .before .before .before .before in omega (arith, heading-length (start .args .row) kindA (search needs))
 
--- src/lines.rt:61:9
 digits-requires : tie.Need-digits-requires
-digits-requires c κs = ?
+digits-requires c κs = let start = c .before .before .before .before .before .before .before .before .before .before .before .before .before .before .before in omega (arith, heading-length (start .args .row) kindA (search needs), row-length (start .args .number) (search needs))
 
--- src/lines.rt:62:5
 end-requires : tie.Need-end-requires
-end-requires c κs = ?
+end-requires c κs = let start = c .before .before .before .before .before .before .before .before .before .before .before .before .before .before .before .before .before .before .before in omega (arith, heading-length (start .args .row) kindA (search needs), row-length (start .args .number) (search needs))
 
--- src/lines.rt:54:1
 same-length : tie.Need-same-length
 same-length c = search needs
 
--- src/lines.rt:54:1
 returns : tie.Need-returns
-returns c = ?
+returns c = let digits = c .before .before .before .before .before .before in
+    let commas = digits .before .before .before .before in
+    let series = commas .before .before .before .before .before in
+    answer-put _ _ _ (series .before .before .before .before .begin .ensures) (series .series .ensures .0) (commas .bytes .ensures) (digits .digits .ensures) (c .before .before .end .ensures)
 
 pub answer-spec : {M : Type 1} → statement M
 answer-spec =

@@ -1,34 +1,29 @@
+-- `report::lines::begin` meets its contract.
+use Rattle.report.proofs.Fields.{_then_, row-length}
+use native.Mathlib.Omega.{arith}
 use borrow.Author.Needs.{needs}
 use Rattle.report.proofs.lines.begin.Statement.{statement}
 use Rattle.report.proofs.lines.begin.Tie as tie
-use Rattle.report.proofs.lines.begin.Reads as reads
-use Rattle.report.proofs.lines.begin.Lts as lts
-use Rattle.decimal.proofs.put.byte.Reads as byte-reads
-use Rattle.decimal.proofs.put.digits.Reads as digits-reads
 
--- src/lines.rt:29:9
 digits-requires : tie.Need-digits-requires
-digits-requires c κs = ?
+digits-requires c κs = omega (arith, row-length (c .before .before .args .row) (search needs))
 
--- src/lines.rt:30:9
 byte-requires : tie.Need-byte-requires
-byte-requires c κs = ?
+byte-requires c κs = let start = c .before .before .before .before .before .before in omega (arith, row-length (start .args .row) (search needs))
 
--- src/lines.rt:31:9
 byte-requires-2 : tie.Need-byte-requires-2
-byte-requires-2 c κs = ?
+byte-requires-2 c κs = let start = c .before .before .before .before .before .before .before .before .before .before in omega (arith, row-length (start .args .row) (search needs))
 
--- src/lines.rt:32:5
 byte-requires-3 : tie.Need-byte-requires-3
-byte-requires-3 c κs = ?
+byte-requires-3 c κs = let start = c .before .before .before .before .before .before .before .before .before .before .before .before .before .before in omega (arith, row-length (start .args .row) (search needs))
 
--- src/lines.rt:25:1
 same-length : tie.Need-same-length
 same-length c = search needs
 
--- src/lines.rt:25:1
 returns : tie.Need-returns
-returns c = ?
+returns c = let kind = c .before .before .before .before .before .before in
+    let comma = kind .before .before .before .before in
+    comma .before .before .before .before .digits .ensures then comma .byte .ensures then kind .byte2 .ensures then c .before .before .byte3 .ensures
 
 pub begin-spec : {M : Type 1} → statement M
 begin-spec =
