@@ -1,54 +1,70 @@
+-- `report::session::money` meets its contract: the lines of the accounts passed stand in the buffer.
+use Rattle.report.proofs.Joined.{joined-put, joined-next, element-fits}
+use Rattle.report.proofs.OneLine.{money-length}
+use Rattle.report.specs.Report.{moneyLine}
+use Rattle.report.specs.Lines.{joined}
+use Rattle.integer.specs.Sum.{at}
+use Rattle.decimal.specs.Put.{Put}
+use mir.Facts.{toZ-ofZ}
+use mir.Val.{SFits}
+use mir.Syntax.{w64}
+use lib.Dec.{lit<}
+use lib.ListN.{length}
+use Prim.Native.Nat.{ℕ, _+_, _-_, _*_, _≤_}
+use mathlib.Core.Path.{_≡_, refl, ap, _∙_}
+use borrow.Author.Needs.{needs}
+use native.Mathlib.Omega.{arith}
 use Rattle.report.proofs.session.money.Statement.{statement}
 use Rattle.report.proofs.session.money.Tie as tie
-use Rattle.report.proofs.session.money.Reads as reads
-use Rattle.report.proofs.session.money.Lts as lts
-use Rattle.report.proofs.lines.money.Reads as money-reads
 
 abbrev Inv-loop : tie.InvT-loop
-Inv-loop out₀ at row money next₀ a₀ out next a = ?
+Inv-loop out₀ place row money next₀ a₀ out next a =
+    (a ≤ 64) × (length out ≡ length out₀) × (next ≤ place + a * 64) × Put out₀ place (joined a (λ a. moneyLine row a (at money a))) out next
 
 abbrev μ-loop : tie.MeasureT-loop
-μ-loop out₀ at row money next₀ a₀ out next a = ?
+μ-loop out₀ place row money next₀ a₀ out next a = 64 - a
 
--- src/session.rt:23:5
+-- each account's money is a number of 64 bits
+amount-fits : (c : tie.Start Inv-loop μ-loop) (a : ℕ) → SFits w64 (at (c .args .t4) a)
+amount-fits c a = element-fits w64 (lit< tt) 64 (c .args .t4) _ (c .good .1 .1 .1 .0) a
+
 loop-holds : tie.Need-loop-holds Inv-loop μ-loop
-loop-holds c = ?
+loop-holds c = (omega arith, refl, omega arith, joined-put _ _ _)
 
--- src/session.rt:24:45
 cast-money : tie.Need-cast-money Inv-loop μ-loop
-cast-money c = ?
+cast-money c = search needs
 
--- src/session.rt:24:54
 mul-money : tie.Need-mul-money Inv-loop μ-loop
-mul-money c = ?
+mul-money c = search needs
 
--- src/session.rt:24:54
 array-copy-out-money : tie.Need-array-copy-out-money Inv-loop μ-loop
-array-copy-out-money c = ?
+array-copy-out-money c = search needs
 
--- src/session.rt:24:9
 money-requires : tie.Need-money-requires Inv-loop μ-loop
-money-requires c κs = ?
+money-requires c κs = omega arith
 
--- src/session.rt:25:9
 add-a : tie.Need-add-a Inv-loop μ-loop
-add-a c = ?
+add-a c = search needs
 
--- src/session.rt:23:5
 loop-less : tie.Need-loop-less Inv-loop μ-loop
-loop-less c = ?
+loop-less c = search needs
 
--- src/session.rt:23:5
 loop-again : tie.Need-loop-again Inv-loop μ-loop
-loop-again c = ?
+loop-again c = let start = c .before .before .before .before .before .before .before .before in
+    let loop = c .before .before .before .before .before .before in
+    let a = loop .loop .a in
+    let f = amount-fits start a in
+    let put = rw (toZ-ofZ f) at (c .before .before .money .ensures) in
+    let k = money-length (start .args .row) a (at (start .args .t4) a) (search needs) (omega arith) f in
+    (omega arith, search needs, omega (arith, put .place), joined-next a _ (loop .loop .inv .3) put)
 
--- src/session.rt:17:1
 same-length : tie.Need-same-length Inv-loop μ-loop
-same-length c = ?
+same-length c = c .before .loop .inv .1
 
--- src/session.rt:17:1
 returns : tie.Need-returns Inv-loop μ-loop
-returns c = ?
+returns c = let loop = c .before .loop in
+    let all : loop .a ≡ 64 = omega arith in
+    rw all at (loop .inv .3)
 
 pub money-spec : {M : Type 1} → statement M
 money-spec =

@@ -1,74 +1,94 @@
+-- `report::session::series_futures` meets its contract: the lines of the accounts passed stand in the buffer.
+use Rattle.report.proofs.Joined.{joined-put, joined-next, element-fits}
+use Rattle.report.proofs.OneLine.{futures-length}
+use Rattle.report.specs.Report.{arisen, futuresLine, seriesLines}
+use Rattle.report.specs.Lines.{joined}
+use Rattle.integer.specs.Sum.{at}
+use Rattle.integer.specs.Machine.{Reads, any, minus, local, fits}
+use Rattle.integer.specs.Bounds.{within-fits}
+use Rattle.decimal.specs.Put.{Put}
+use mir.Val.{SFits}
+use mir.Syntax.{w32, w64}
+use lib.Dec.{lit<}
+use lib.ListN.{length}
+use Prim.Native.Nat.{ℕ, _+_, _-_, _*_, _≤_}
+use mathlib.Core.Path.{_≡_, refl}
+use borrow.Author.Needs.{needs}
+use native.Mathlib.Omega.{arith}
 use Rattle.report.proofs.session.series_futures.Statement.{statement}
 use Rattle.report.proofs.session.series_futures.Tie as tie
-use Rattle.report.proofs.session.series_futures.Reads as reads
-use Rattle.report.proofs.session.series_futures.Lts as lts
-use Rattle.report.proofs.lines.futures.Reads as futures-reads
 
 abbrev Inv-loop : tie.InvT-loop
-Inv-loop out₀ at row i before after next₀ a₀ out next a = ?
+Inv-loop out₀ place row i before after next₀ a₀ out next a =
+    (a ≤ 64) × (length out ≡ length out₀) × (next ≤ place + a * 64) × Put out₀ place (joined a (λ a. futuresLine row i a (arisen before after a))) out next
 
 abbrev μ-loop : tie.MeasureT-loop
-μ-loop out₀ at row i before after next₀ a₀ out next a = ?
+μ-loop out₀ place row i before after next₀ a₀ out next a = 64 - a
 
--- src/session.rt:44:5
+-- each account's futures are numbers of 32 bits, and their difference is one of 64
+module _ (c : tie.Start Inv-loop μ-loop) (a : ℕ) where
+  abbrev earlier : Reads 2147483648 (at (c .args .t5) a)
+  earlier = any w32 (element-fits w32 (lit< tt) 64 (c .args .t5) _ (c .good .1 .1 .1 .1 .0) a)
+
+  abbrev later : Reads 2147483648 (at (c .args .t6) a)
+  later = any w32 (element-fits w32 (lit< tt) 64 (c .args .t6) _ (c .good .1 .1 .1 .1 .1 .0) a)
+
+  abbrev difference : Reads 4294967296 (arisen (c .args .t5) (c .args .t6) a)
+  difference = minus (local w64 later tt) (local w64 earlier tt)
+
 loop-holds : tie.Need-loop-holds Inv-loop μ-loop
-loop-holds c = ?
+loop-holds c = (omega arith, refl, omega arith, joined-put _ _ _)
 
--- src/session.rt:45:22
 mul-arisen : tie.Need-mul-arisen Inv-loop μ-loop
-mul-arisen c = ?
+mul-arisen c = search needs
 
--- src/session.rt:45:22
 array-copy-out-arisen : tie.Need-array-copy-out-arisen Inv-loop μ-loop
-array-copy-out-arisen c = ?
+array-copy-out-arisen c = search needs
 
--- src/session.rt:45:22
 cast-arisen : tie.Need-cast-arisen Inv-loop μ-loop
-cast-arisen c = ?
+cast-arisen c = fits w64 (later (c .before .before .before .before) (c .before .before .loop .a)) tt
 
--- src/session.rt:45:40
 mul-arisen-2 : tie.Need-mul-arisen-2 Inv-loop μ-loop
-mul-arisen-2 c = ?
+mul-arisen-2 c = search needs
 
--- src/session.rt:45:40
 array-copy-out-arisen-2 : tie.Need-array-copy-out-arisen-2 Inv-loop μ-loop
-array-copy-out-arisen-2 c = ?
+array-copy-out-arisen-2 c = search needs
 
--- src/session.rt:45:40
 cast-arisen-2 : tie.Need-cast-arisen-2 Inv-loop μ-loop
-cast-arisen-2 c = ?
+cast-arisen-2 c = fits w64 (earlier (c .before .before .before .before .before) (c .before .before .before .loop .a)) tt
 
--- src/session.rt:45:22
 sub-arisen : tie.Need-sub-arisen Inv-loop μ-loop
-sub-arisen c = ?
+sub-arisen c = fits w64 (difference (c .before .before .before .before .before) (c .before .before .before .loop .a)) tt
 
--- src/session.rt:46:50
 cast-futures : tie.Need-cast-futures Inv-loop μ-loop
-cast-futures c = ?
+cast-futures c = search needs
 
--- src/session.rt:46:9
 futures-requires : tie.Need-futures-requires Inv-loop μ-loop
-futures-requires c κs = ?
+futures-requires c κs = omega arith
 
--- src/session.rt:47:9
 add-a : tie.Need-add-a Inv-loop μ-loop
-add-a c = ?
+add-a c = search needs
 
--- src/session.rt:44:5
 loop-less : tie.Need-loop-less Inv-loop μ-loop
-loop-less c = ?
+loop-less c = search needs
 
--- src/session.rt:44:5
 loop-again : tie.Need-loop-again Inv-loop μ-loop
-loop-again c = ?
+loop-again c = let start = c .before .before .before .before .before .before .before .before .before in
+    let loop = c .before .before .before .before .before .before .before in
+    let a = loop .loop .a in
+    let g = local w64 (difference start a) tt in
+    let put = rw (g .is) at (c .before .before .futures .ensures) in
+    let k = futures-length (start .args .row) (start .args .i) a (arisen (start .args .t5) (start .args .t6) a) (search needs) (search needs) (omega arith) (within-fits w64 (g .bound) tt) in
+    (omega arith, search needs, omega (arith, put .place), joined-next a _ (loop .loop .inv .3) put)
 
--- src/session.rt:31:1
 same-length : tie.Need-same-length Inv-loop μ-loop
-same-length c = ?
+same-length c = c .before .loop .inv .1
 
--- src/session.rt:31:1
 returns : tie.Need-returns Inv-loop μ-loop
-returns c = ?
+unfolding seriesLines
+returns c = let loop = c .before .loop in
+    let all : loop .a ≡ 64 = omega arith in
+    rw all at (loop .inv .3)
 
 pub series-futures-spec : {M : Type 1} → statement M
 series-futures-spec =
