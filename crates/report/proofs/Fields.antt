@@ -27,6 +27,9 @@ use Rattle.report.specs.Lines.{sign, countText, amountText, seriesText}
 pub room : {l m x : List ℕ} {at r : ℕ} (j : ℕ) → Put l at x m r → at + (length x + j) ≤ length l → r + j ≤ length m
 room {l} {m} {x} {at} {r} j p h = omega (arith, p .place, ap length (p .bytes) ∙ length-sets l at x)
 
+pub short : {l m x : List ℕ} {at r : ℕ} (k : ℕ) → Put l at x m r → length x ≤ k → r ≤ at + k
+short k p h = omega (arith, p .place)
+
 pub nothing : (l : List ℕ) (at : ℕ) → Put l at [] l at
 nothing l at = record { place = omega arith; bytes = refl }
 

@@ -1,4 +1,4 @@
-// The lines of a row's output. Each function puts its text at a place of the buffer and returns the place after it.
+// One line of the output, of at most 64 bytes. Each function puts its text at a place of the buffer and returns the place after it.
 use book::state::Found;
 use crate::field;
 use decimal::put;
@@ -14,6 +14,7 @@ ghost use Rattle.report.specs.Report as rule;
 pub fn header(out: &mut [u8], at: usize) -> usize
     requires { ⌜ at + 64 ≤ length (now out) ⌝ }
     ensures { λ r. ⌜ Put (now (out .entry)) at text.header (now (out .exit)) r ⌝ }
+    ensures { λ r. ⌜ r ≤ at + 64 ⌝ }
 {
     put::bytes(out, at, b"row,kind,series,account,amount\r\n")
 }
@@ -51,6 +52,7 @@ fn end(out: &mut [u8], at: usize) -> usize
 pub fn answer(out: &mut [u8], at: usize, row: u64, found: Found, number: u64) -> usize
     requires { ⌜ at + 64 ≤ length (now out) ⌝ }
     ensures { λ r. ⌜ Put (now (out .entry)) at (rule.answerLine row found number) (now (out .exit)) r ⌝ }
+    ensures { λ r. ⌜ r ≤ at + 64 ⌝ }
 {
     let series = begin(out, at, row, b'A');
     let commas = field::series(out, series, found);
@@ -63,6 +65,7 @@ pub fn answer(out: &mut [u8], at: usize, row: u64, found: Found, number: u64) ->
 pub fn money(out: &mut [u8], at: usize, row: u64, a: u8, amount: i64) -> usize
     requires { ⌜ at + 64 ≤ length (now out) ⌝ }
     ensures { λ r. ⌜ Put (now (out .entry)) at (rule.moneyLine row a amount) (now (out .exit)) r ⌝ }
+    ensures { λ r. ⌜ r ≤ at + 64 ⌝ }
 {
     if amount == 0 {
         return at;
@@ -77,6 +80,7 @@ pub fn money(out: &mut [u8], at: usize, row: u64, a: u8, amount: i64) -> usize
 pub fn futures(out: &mut [u8], at: usize, row: u64, i: u8, a: u8, arisen: i64) -> usize
     requires { ⌜ at + 64 ≤ length (now out) ⌝ }
     ensures { λ r. ⌜ Put (now (out .entry)) at (rule.futuresLine row i a arisen) (now (out .exit)) r ⌝ }
+    ensures { λ r. ⌜ r ≤ at + 64 ⌝ }
 {
     if arisen == 0 {
         return at;

@@ -17,6 +17,7 @@ ghost use Rattle.report.specs.Report as rule;
 pub fn money(out: &mut [u8], at: usize, row: u64, money: [i64; ACCOUNTS]) -> usize
     requires { ⌜ at + 4096 ≤ length (now out) ⌝ }
     ensures { λ r. ⌜ Put (now (out .entry)) at (rule.moneyLines row money) (now (out .exit)) r ⌝ }
+    ensures { λ r. ⌜ r ≤ at + 4096 ⌝ }
 {
     let mut next = at;
     let mut a: usize = 0;
@@ -38,6 +39,7 @@ fn series_futures(
 ) -> usize
     requires { ⌜ at + 4096 ≤ length (now out) ⌝ }
     ensures { λ r. ⌜ Put (now (out .entry)) at (rule.seriesLines row i before after) (now (out .exit)) r ⌝ }
+    ensures { λ r. ⌜ r ≤ at + 4096 ⌝ }
 {
     let mut next = at;
     let mut a: usize = 0;
@@ -59,6 +61,7 @@ pub fn futures(
 ) -> usize
     requires { ⌜ at + 32768 ≤ length (now out) ⌝ }
     ensures { λ r. ⌜ Put (now (out .entry)) at (rule.futuresLines row before after) (now (out .exit)) r ⌝ }
+    ensures { λ r. ⌜ r ≤ at + 32768 ⌝ }
 {
     let mut next = at;
     let mut i: usize = 0;
@@ -83,6 +86,7 @@ pub fn report(
 ) -> usize
     requires { ⌜ at + 36928 ≤ length (now out) ⌝ }
     ensures { λ r. ⌜ Put (now (out .entry)) at (rule.reportOf row before step) (now (out .exit)) r ⌝ }
+    ensures { λ r. ⌜ r ≤ at + 36928 ⌝ }
 {
     let answer = step.answer;
     let paid = step.money;

@@ -1,6 +1,6 @@
 -- `report::lines::answer` meets its contract.
-use Rattle.report.proofs.OneLine.{heading-length, answer-put}
-use Rattle.report.proofs.Fields.{row-length}
+use Rattle.report.proofs.OneLine.{heading-length, answer-put, answer-length}
+use Rattle.report.proofs.Fields.{row-length, short}
 use Rattle.report.specs.Lines.{kindA}
 use native.Mathlib.Omega.{arith}
 use borrow.Author.Needs.{needs}
@@ -29,10 +29,14 @@ same-length : tie.Need-same-length
 same-length c = search needs
 
 returns : tie.Need-returns
-returns c = let digits = c .before .before .before .before .before .before in
+returns c = let start = c .before .before .before .before .before .before .before .before .before .before .before .before .before .before .before .before .before .before .before .before .before .before in
+    let digits = c .before .before .before .before .before .before in
     let commas = digits .before .before .before .before in
     let series = commas .before .before .before .before .before in
-    answer-put _ _ _ (series .before .before .before .before .begin .ensures) (series .series .ensures .0) (commas .bytes .ensures) (digits .digits .ensures) (c .before .before .end .ensures)
+    let put =
+    answer-put (start .args .row) (start .args .found) (start .args .number) (series .before .before .before .before .begin .ensures) (series .series .ensures .0) (commas .bytes .ensures) (digits .digits .ensures) (c .before .before .end .ensures)
+    in
+    (put, short 64 put (answer-length (start .args .row) (start .args .found) (start .args .number) (search needs) (omega (arith, series .series .ensures)) (search needs)))
 
 pub answer-spec : {M : Type 1} → statement M
 answer-spec =

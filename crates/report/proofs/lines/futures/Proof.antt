@@ -1,6 +1,6 @@
 -- `report::lines::futures` meets its contract.
-use Rattle.report.proofs.OneLine.{heading-length, account-length, futures-put, no-futures-put}
-use Rattle.report.proofs.Fields.{byte-length, count-length}
+use Rattle.report.proofs.OneLine.{heading-length, account-length, futures-put, no-futures-put, futures-length}
+use Rattle.report.proofs.Fields.{byte-length, count-length, short}
 use Rattle.report.proofs.Magnitude.{zero-test, other-test}
 use Rattle.report.specs.Lines.{kindF}
 use native.Mathlib.Omega.{arith}
@@ -12,7 +12,7 @@ use Rattle.report.proofs.lines.futures.Tie as tie
 
 returns : tie.Need-returns
 returns c = let start = c .before .before in
-    no-futures-put _ _ _ _ _ (start .args .arisen) (zero-test (start .args .arisen) (start .fits .arisen) (c .if1 .taken))
+    (no-futures-put _ _ _ _ _ (start .args .arisen) (zero-test (start .args .arisen) (start .fits .arisen) (c .if1 .taken)), omega arith)
 
 begin-requires : tie.Need-begin-requires
 begin-requires c κs = search needs
@@ -37,11 +37,15 @@ same-length c = search needs
 
 returns-2 : tie.Need-returns-2
 returns-2 c = let start = c .before .before .before .before .before .before .before .before .before .before .before .before .before .before .before .before .before .before .before .before .before .before in
+    let z = start .args .arisen in
     let count = c .before .before .before .before .before .before in
     let account = count .before .before .before .before in
     let digits = account .before .before .before .before in
     let begin = digits .before .before .before .before in
-    futures-put _ _ _ (start .args .arisen) (other-test (start .args .arisen) (begin .before .before .if1 .left)) (begin .begin .ensures) (digits .digits .ensures) (account .account .ensures) (rw (any w64 (start .fits .arisen) .is) at (count .count .ensures)) (c .before .before .end .ensures)
+    let put =
+    futures-put (start .args .row) (start .args .i) (start .args .a) z (other-test z (begin .before .before .if1 .left)) (begin .begin .ensures) (digits .digits .ensures) (account .account .ensures) (rw (any w64 (start .fits .arisen) .is) at (count .count .ensures)) (c .before .before .end .ensures)
+    in
+    (put, short 64 put (futures-length (start .args .row) (start .args .i) (start .args .a) z (search needs) (search needs) (search needs) (start .fits .arisen)))
 
 pub futures-spec : {M : Type 1} → statement M
 futures-spec =

@@ -53,10 +53,8 @@ loop-again : tie.Need-loop-again Inv-loop μ-loop
 loop-again c = let start = c .before .before .before .before .before .before .before .before in
     let loop = c .before .before .before .before .before .before in
     let a = loop .loop .a in
-    let f = amount-fits start a in
-    let put = rw (toZ-ofZ f) at (c .before .before .money .ensures) in
-    let k = money-length (start .args .row) a (at (start .args .t4) a) (search needs) (omega arith) f in
-    (omega arith, search needs, omega (arith, put .place), joined-next a _ (loop .loop .inv .3) put)
+    let put = rw (toZ-ofZ (amount-fits start a)) at (c .before .before .money .ensures .0) in
+    (omega arith, search needs, omega (arith, c .before .before .money .ensures .1), joined-next a _ (loop .loop .inv .3) put)
 
 same-length : tie.Need-same-length Inv-loop μ-loop
 same-length c = c .before .loop .inv .1
@@ -64,7 +62,7 @@ same-length c = c .before .loop .inv .1
 returns : tie.Need-returns Inv-loop μ-loop
 returns c = let loop = c .before .loop in
     let all : loop .a ≡ 64 = omega arith in
-    rw all at (loop .inv .3)
+    (rw all at (loop .inv .3), omega arith)
 
 pub money-spec : {M : Type 1} → statement M
 money-spec =

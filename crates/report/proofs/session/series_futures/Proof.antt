@@ -76,10 +76,8 @@ loop-again : tie.Need-loop-again Inv-loop μ-loop
 loop-again c = let start = c .before .before .before .before .before .before .before .before .before in
     let loop = c .before .before .before .before .before .before .before in
     let a = loop .loop .a in
-    let g = local w64 (difference start a) tt in
-    let put = rw (g .is) at (c .before .before .futures .ensures) in
-    let k = futures-length (start .args .row) (start .args .i) a (arisen (start .args .t5) (start .args .t6) a) (search needs) (search needs) (omega arith) (within-fits w64 (g .bound) tt) in
-    (omega arith, search needs, omega (arith, put .place), joined-next a _ (loop .loop .inv .3) put)
+    let put = rw (local w64 (difference start a) tt .is) at (c .before .before .futures .ensures .0) in
+    (omega arith, search needs, omega (arith, c .before .before .futures .ensures .1), joined-next a _ (loop .loop .inv .3) put)
 
 same-length : tie.Need-same-length Inv-loop μ-loop
 same-length c = c .before .loop .inv .1
@@ -88,7 +86,7 @@ returns : tie.Need-returns Inv-loop μ-loop
 unfolding seriesLines
 returns c = let loop = c .before .loop in
     let all : loop .a ≡ 64 = omega arith in
-    rw all at (loop .inv .3)
+    (rw all at (loop .inv .3), omega arith)
 
 pub series-futures-spec : {M : Type 1} → statement M
 series-futures-spec =
