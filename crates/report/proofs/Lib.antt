@@ -1,0 +1,4 @@
+pub mod Magnitude
+pub mod Fields
+pub mod OneLine
+pub mod Joined

@@ -1,0 +1,28 @@
+-- `report::field::put_sign` meets its contract.
+use lib.IntN.{pos}
+use mir.Syntax.{w64}
+use borrow.Author.Needs.{needs}
+use Rattle.integer.specs.Machine.{any, lit, less}
+use Rattle.report.proofs.Fields.{minus-put, no-sign-put}
+use Rattle.report.proofs.field.put_sign.Statement.{statement}
+use Rattle.report.proofs.field.put_sign.Tie as tie
+
+byte-requires : tie.Need-byte-requires
+byte-requires c κs = search needs
+
+same-length : tie.Need-same-length
+same-length c = search needs
+
+returns : tie.Need-returns
+returns c =
+    let if1 = c .before .before .before .before in
+    let start = if1 .before .before in
+    minus-put (start .args .z) (less (any w64 (start .fits .z)) (lit (pos 0)) (if1 .if1 .taken)) (c .before .before .byte .ensures)
+
+returns-2 : tie.Need-returns-2
+returns-2 c =
+    let start = c .before .before in
+    no-sign-put _ _ (start .args .z) (less (any w64 (start .fits .z)) (lit (pos 0)) (c .if1 .left))
+
+pub put-sign-spec : {M : Type 1} → statement M
+put-sign-spec = tie.close (tie.spec byte-requires same-length returns returns-2)

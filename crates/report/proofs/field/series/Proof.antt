@@ -1,0 +1,38 @@
+-- `report::field::series` meets its contract.
+use Rattle.report.proofs.Fields.{nothing, byte-length}
+use Rattle.report.specs.Lines.{seriesText}
+use lib.ListN.{length}
+use mathlib.Core.Path.{_∙_, ap}
+use native.Mathlib.Omega.{arith}
+use borrow.Author.Needs.{needs}
+use Rattle.report.proofs.field.series.Statement.{statement}
+use Rattle.report.proofs.field.series.Tie as tie
+
+enum-known-found : tie.Need-enum-known-found
+enum-known-found c = search needs
+
+cast-digits : tie.Need-cast-digits
+cast-digits c = search needs
+
+digits-requires : tie.Need-digits-requires
+digits-requires c κs = omega (arith, byte-length (c .before .before .found .given .0 .0) (search needs))
+
+enum-told : tie.Need-enum-told
+enum-told c = search needs
+
+same-length : tie.Need-same-length
+same-length c = search needs
+
+returns : tie.Need-returns
+unfolding seriesText
+returns c = let found = c .before .before .before .before .before in
+    (rw (found .found .given .1) (c .before .before .digits .ensures), omega (arith, byte-length (found .found .given .0 .0) (search needs)))
+
+returns-2 : tie.Need-returns-2
+unfolding seriesText
+returns-2 c = (rw (c .enum-told .given .1) (nothing _ _), omega arith)
+
+pub series-spec : {M : Type 1} → statement M
+series-spec =
+    tie.close
+    (tie.spec enum-known-found cast-digits digits-requires enum-told same-length returns returns-2)
