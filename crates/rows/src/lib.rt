@@ -1,0 +1,2 @@
+// Rows of input: where they end in a buffer that is refilled, and the event that a row says.
+pub mod cut; // cut.rt: rows are cut at CRLF
