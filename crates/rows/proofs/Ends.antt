@@ -12,8 +12,8 @@ use borrow.Author.Tests.{ne-eqb}
 use Rattle.choice.specs.Choice.{choose}
 use Rattle.decimal.proofs.Places.{drop-next}
 use Rattle.rows.specs.Cut.{Cut, startsCrlf, emptyRow, firstByte, cut, endOn, endFrom}
-use Rattle.rows.specs.declared.cut.End.{End}
-use Rattle.rows.specs.declared.cut.End.the-variants.{At, NoEnd}
+use Rattle.rows.specs.declared.types.End.{End}
+use Rattle.rows.specs.declared.types.End.the-variants.{At, NoEnd}
 
 -- CR LF at a place
 second : (s : List ℕ) (i : ℕ) → getD (drop (i + 1) s) 0 0 ≡ getD s (i + 1) 0
@@ -49,7 +49,7 @@ pub end-never : {x : End} (s : List ℕ) (i : ℕ) → x ≡ endOn i (drop i s) 
 unfolding endOn
 end-never s i e h = rw (e, drop-of-length-le s h)
 
-none-at : (n : ℕ) → NoEnd ≡ At n → ⊥
+pub none-at : (n : ℕ) → NoEnd ≡ At n → ⊥
 none-at n e = let z : _≡_ {A = ℕ} 0 1 = cc in omega arith
 
 -- one byte is no CRLF

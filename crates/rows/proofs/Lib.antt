@@ -1,3 +1,5 @@
 pub mod Ends
 pub mod Buffer
 pub mod Pieces
+pub mod Fields
+pub mod Readers

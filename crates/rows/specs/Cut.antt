@@ -5,8 +5,8 @@ use mathlib.Core.List.{List, [], _∷_, _++_}
 use lib.ListN.{length, getD, drop}
 use lib.Dec.{eqb}
 use Rattle.choice.specs.Choice.{choose}
-use Rattle.rows.specs.declared.cut.End.{End}
-use Rattle.rows.specs.declared.cut.End.the-variants.{At, NoEnd}
+use Rattle.rows.specs.declared.types.End.{End}
+use Rattle.rows.specs.declared.types.End.the-variants.{At, NoEnd}
 
 -- CR LF stand first; a lone CR or LF is a byte of its row
 unfoldable pub startsCrlf : List ℕ → Bool

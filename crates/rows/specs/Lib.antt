@@ -1,2 +1,4 @@
 pub mod Cut
 pub mod Stream
+pub mod Field
+pub mod Row

@@ -3,12 +3,7 @@ ghost use mathlib.Core.Path.{_≡_};
 ghost use Prim.Native.Nat.{_<_};
 ghost use lib.ListN.{length, drop};
 ghost use Rattle.rows.specs.Cut.{startsCrlf, endFrom, keptFrom, movedDown};
-
-pub enum End {
-    // the place of the CRLF that ends the row
-    At(usize),
-    NoEnd,
-}
+use crate::types::End;
 
 // Whether CR LF stand at a place.
 fn crlf(s: &[u8], i: usize) -> bool
