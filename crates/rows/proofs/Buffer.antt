@@ -1,13 +1,20 @@
--- Moving the end of a buffer to its front.
-use Prim.Native.Nat.{ℕ, suc, _+_, _-_, _≤_, _<_}
+-- What is kept of an unfinished row, and moving it to the front of the buffer.
+use Prim.Native.Nat.{ℕ, suc, _+_, _-_, _≤_, _<_, max}
 use mathlib.Core.Path.{_≡_, sym, ap, _∙_}
 use mathlib.Core.List.{List, _++_}
 use native.Mathlib.Numerals.{add-one}
 use native.Mathlib.Omega.{arith}
 use lib.ListN.{length, drop, take, getD, set, length-drop}
-use lib.Seq.{getD-drop, take-suc, take-all, set-at, append-snoc, length-take-le, getD-append-add}
+use lib.Seq.{getD-drop, drop-drop, take-suc, take-all, set-at, append-snoc, length-take-le, getD-append-add}
 use Rattle.decimal.proofs.Places.{drop-next}
-use Rattle.rows.specs.Cut.{movedDown}
+use Rattle.rows.specs.Cut.{kept, keptFrom, movedDown}
+
+-- of a row that starts at a place of a full buffer, what is kept starts where `keptFrom` says
+pub kept-at : (s : List ℕ) (from : ℕ) → from ≤ length s → drop (keptFrom from (length s)) s ≡ kept (drop from s)
+unfolding kept keptFrom
+kept-at s from h =
+    let z : max from (length s - 258) ≡ from + (length (drop from s) - 258) = omega (arith, length-drop from s) in
+    rw z (sym (drop-drop (length (drop from s) - 258) from s))
 
 -- the first i bytes from a place on are moved
 abbrev pub partly : ℕ → ℕ → List ℕ → List ℕ

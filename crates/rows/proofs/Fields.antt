@@ -128,7 +128,7 @@ module _ {x : End} (s : List ℕ) (i : ℕ) (e : x ≡ codeOn i (drop i s)) wher
       code-more q = rw (e, drop-next s i h, ne-eqb (getD s i 0) 44 c, ne-eqb (getD s i 0) 34 q)
 
 -- a code that is found stands whole in the row, behind its comma
-code-fits : (l : List ℕ) (i n : ℕ) → codeOn i l ≡ At n → (i ≤ n) × (n < i + length l)
+pub code-fits : (l : List ℕ) (i n : ℕ) → codeOn i l ≡ At n → (i ≤ n) × (n < i + length l)
 unfolding codeOn choose
 code-fits [] i n e = absurd (none-at n e)
 code-fits (b ∷ bs) i n e = by-test (eqb b 44) (eqb b 34) e (code-fits bs (i + 1) n)

@@ -6,111 +6,18 @@ use mathlib.Core.List.{List, [], _∷_, _++_, map, map-append, append-assoc, app
 use native.Mathlib.Omega.{arith}
 use lib.ListN.{length, drop, length-append}
 use lib.Dec.{eqb}
-use borrow.Author.Tests.{eqb-true}
 use Rattle.choice.specs.Choice.{choose}
-use Rattle.rows.specs.Cut.{Cut, startsCrlf, emptyRow, firstByte, cut, lastRow, rowsOf, kept}
-use Rattle.rows.specs.Stream.{joined, answers, streamed, ended}
-
--- rows before a cut
-abbrev before : List (List ℕ) → Cut → Cut
-before rows k = record { rows = rows ++ k .rows; rest = k .rest }
-
--- no row ends in these bytes
-abbrev Uncut : List ℕ → Type 0
-Uncut l = cut l .rows ≡ []
-
-no-rows : {A : Type 0} (x : List ℕ) (xs : List (List ℕ)) → x ∷ xs ≡ [] → A
-no-rows x xs e = let z : _≡_ {A = ℕ} 0 1 = cc in absurd (omega arith)
-
--- a byte before a cut: no row ends in it exactly where none ends in the cut
-first-none : (b : ℕ) (rows : List (List ℕ)) (rest : List ℕ) → firstByte b rows rest .rows ≡ [] → rows ≡ []
-unfolding firstByte
-first-none b [] rest e = refl
-first-none b (row ∷ rows) rest e = no-rows _ _ e
-
--- where no row ends the rest is all
-uncut-rest : (l : List ℕ) → Uncut l → cut l .rest ≡ l
-unfolding cut emptyRow firstByte choose
-uncut-rest [] e = refl
-uncut-rest (b ∷ []) e = refl
-uncut-rest (b ∷ c ∷ bs) e = by-test (startsCrlf (b ∷ c ∷ bs)) (cut (c ∷ bs) .rows) (cut (c ∷ bs) .rest) e (uncut-rest (c ∷ bs))
-  where
-    by-test : (t : Bool) (x : List (List ℕ)) (y : List ℕ) →
-        choose t (emptyRow (cut bs)) (firstByte b x y) .rows ≡ [] →
-        (x ≡ [] → y ≡ c ∷ bs) →
-        choose t (emptyRow (cut bs)) (firstByte b x y) .rest ≡ b ∷ c ∷ bs
-    by-test true x y e ih = no-rows _ _ e
-    by-test false [] y e ih = rw (ih refl)
-    by-test false (row ∷ x) y e ih = no-rows _ _ e
-
--- nor does one end in the bytes after the first
-uncut-next : (b : ℕ) (l : List ℕ) → Uncut (b ∷ l) → Uncut l
-unfolding cut emptyRow choose
-uncut-next b [] e = refl
-uncut-next b (c ∷ bs) e = by-test (startsCrlf (b ∷ c ∷ bs)) e
-  where
-    by-test : (t : Bool) → choose t (emptyRow (cut bs)) (firstByte b (cut (c ∷ bs) .rows) (cut (c ∷ bs) .rest)) .rows ≡ [] → Uncut (c ∷ bs)
-    by-test true e = no-rows _ _ e
-    by-test false e = first-none b (cut (c ∷ bs) .rows) (cut (c ∷ bs) .rest) e
-
-uncut-drop : (k : ℕ) (l : List ℕ) → Uncut l → Uncut (drop k l)
-unfolding cut
-uncut-drop zero l e = e
-uncut-drop (suc k) [] e = refl
-uncut-drop (suc k) (b ∷ l) e = uncut-drop k l (uncut-next b l e)
-
--- no row ends in what stands after the last CRLF
-pub rest-uncut : (l : List ℕ) → Uncut (cut l .rest)
-unfolding cut emptyRow firstByte choose
-rest-uncut [] = refl
-rest-uncut (b ∷ []) = refl
-rest-uncut (b ∷ c ∷ bs) =
-    by-test (startsCrlf (b ∷ c ∷ bs)) refl (cut (c ∷ bs) .rows) refl (rest-uncut bs) (rest-uncut (c ∷ bs))
-  where
-    by-test : (t : Bool) →
-        startsCrlf (b ∷ c ∷ bs) ≡ t →
-        (x : List (List ℕ)) →
-        cut (c ∷ bs) .rows ≡ x →
-        Uncut (cut bs .rest) →
-        Uncut (cut (c ∷ bs) .rest) →
-        Uncut (choose t (emptyRow (cut bs)) (firstByte b x (cut (c ∷ bs) .rest)) .rest)
-    by-test true p x q ih jh = ih
-    by-test false p [] q ih jh = rw (uncut-rest (c ∷ bs) q, p, q)
-    by-test false p (row ∷ x) q ih jh = jh
-
-kept-uncut : (l : List ℕ) → Uncut l → Uncut (kept l)
-unfolding kept
-kept-uncut l e = uncut-drop (length l - 258) l e
-
--- more bytes: the rows so far, and then those of the rest with the new bytes behind it
-pub cut-append : (l m : List ℕ) → cut (l ++ m) ≡ before (cut l .rows) (cut (cut l .rest ++ m))
-unfolding cut startsCrlf emptyRow firstByte choose
-cut-append [] m = refl
-cut-append (b ∷ []) m = refl
-cut-append (b ∷ c ∷ bs) m =
-    by-test (choose (eqb b 13) (eqb c 10) false) refl (cut (c ∷ bs) .rows) refl (cut-append bs m) (cut-append (c ∷ bs) m)
-  where
-    first : (k : Cut) (row : List ℕ) (x : List (List ℕ)) (j : Cut) →
-        k ≡ before (row ∷ x) j →
-        firstByte b (k .rows) (k .rest) ≡ before ((b ∷ row) ∷ x) j
-    first k row x j e = rw e
-
-    by-test : (t : Bool) →
-        choose (eqb b 13) (eqb c 10) false ≡ t →
-        (x : List (List ℕ)) →
-        cut (c ∷ bs) .rows ≡ x →
-        cut (bs ++ m) ≡ before (cut bs .rows) (cut (cut bs .rest ++ m)) →
-        cut (c ∷ bs ++ m) ≡ before x (cut (cut (c ∷ bs) .rest ++ m)) →
-        choose t (emptyRow (cut (bs ++ m))) (firstByte b (cut (c ∷ bs ++ m) .rows) (cut (c ∷ bs ++ m) .rest))
-        ≡ before (choose t (emptyRow (cut bs)) (firstByte b x (cut (c ∷ bs) .rest)) .rows)
-        (cut (choose t (emptyRow (cut bs)) (firstByte b x (cut (c ∷ bs) .rest)) .rest ++ m))
-    by-test true p x q ih jh = rw ih
-    by-test false p [] q ih jh = rw (uncut-rest (c ∷ bs) q, p)
-    by-test false p (row ∷ x) q ih jh = first (cut (c ∷ bs ++ m)) row x _ jh
+use Rattle.rows.specs.Cut.{startsCrlf, emptyRow, firstByte, cut, lastRow, rowsOf, kept}
+use Rattle.rows.specs.Stream.{joined, answers, streamed}
+use Rattle.rows.proofs.Cuts.{Uncut, no-rows, first-none, uncut-rest, uncut-next, uncut-drop, rest-uncut, cut-append}
 
 rows-append : (l m : List ℕ) → rowsOf (l ++ m) ≡ cut l .rows ++ rowsOf (cut l .rest ++ m)
 unfolding rowsOf
 rows-append l m = rw (cut-append l m) (append-assoc (cut l .rows) _ _)
+
+kept-uncut : (l : List ℕ) → Uncut l → Uncut (kept l)
+unfolding kept
+kept-uncut l e = uncut-drop (length l - 258) l e
 
 -- a CRLF that comes with more bytes is past all but one of those before
 late-end : (l m row : List ℕ) (rows : List (List ℕ)) → Uncut l → cut (l ++ m) .rows ≡ row ∷ rows → length l ≤ length row + 1
@@ -201,30 +108,3 @@ module _ {A : Type 0} (read : List ℕ → A) (refused : A) (long : (row : List 
   pub stream : (pieces : List (List ℕ)) → streamed read [] pieces ≡ answers read (joined pieces)
   unfolding cut
   stream pieces = from-start [] pieces refl
-
--- No byte is lost: the rows with their CRLF, and the rest, are the input.
-pub cut-whole : (l : List ℕ) → ended (cut l .rows) ++ cut l .rest ≡ l
-unfolding cut startsCrlf emptyRow firstByte ended choose
-cut-whole [] = refl
-cut-whole (b ∷ []) = refl
-cut-whole (b ∷ c ∷ bs) =
-    by-test (eqb b 13) (eqb c 10) refl refl (cut (c ∷ bs) .rows) (cut (c ∷ bs) .rest) (cut-whole bs) (cut-whole (c ∷ bs))
-  where
-    by-byte : (x : List (List ℕ)) (y : List ℕ) →
-        ended x ++ y ≡ c ∷ bs →
-        ended (firstByte b x y .rows) ++ firstByte b x y .rest ≡ b ∷ c ∷ bs
-    by-byte [] y e = ap (λ (l : List ℕ). b ∷ l) e
-    by-byte (row ∷ x) y e = ap (λ (l : List ℕ). b ∷ l) e
-
-    by-test : (t u : Bool) →
-        eqb b 13 ≡ t →
-        eqb c 10 ≡ u →
-        (x : List (List ℕ)) (y : List ℕ) →
-        ended (cut bs .rows) ++ cut bs .rest ≡ bs →
-        ended x ++ y ≡ c ∷ bs →
-        ended (choose (choose t u false) (emptyRow (cut bs)) (firstByte b x y) .rows)
-        ++ choose (choose t u false) (emptyRow (cut bs)) (firstByte b x y) .rest
-        ≡ b ∷ c ∷ bs
-    by-test true true p q x y ih jh = rw (eqb-true b 13 p, eqb-true c 10 q, ih)
-    by-test true false p q x y ih jh = by-byte x y jh
-    by-test false u p q x y ih jh = by-byte x y jh

@@ -16,8 +16,3 @@ unfoldable pub streamed : {A : Type 0} → (List ℕ → A) → List ℕ → Lis
 streamed read start [] = map read (lastRow start)
 streamed read start (piece ∷ pieces) =
     map read (cut (start ++ piece) .rows) ++ streamed read (kept (cut (start ++ piece) .rest)) pieces
-
--- the bytes of rows, each with its CRLF
-unfoldable pub ended : List (List ℕ) → List ℕ
-ended [] = []
-ended (row ∷ rows) = row ++ (13 ∷ 10 ∷ ended rows)
