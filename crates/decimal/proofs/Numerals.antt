@@ -3,7 +3,7 @@ use Prim.Native.Nat.{ℕ, zero, suc, _+_, _-_, _*_, _/_, _%_, _^_, _≤_, _<_}
 use mathlib.Core.Path.{_≡_, refl, sym, ap, _∙_}
 use mathlib.Core.Bool.{Bool, true, false}
 use mathlib.Core.List.{List, [], _∷_, _++_, append-assoc}
-use native.Mathlib.Nat.{le-refl, sub-self, pow-suc}
+use native.Mathlib.Nat.{le-refl, sub-self, pow-suc, add-zero}
 use native.Mathlib.Omega.{arith}
 use lib.ListN.{length, drop, getD, length-append}
 use lib.Seq.{drop-drop}
@@ -164,6 +164,55 @@ numeral-text s at w j e = go (drop at s) refl e
             ∙ k .1
             ∙ ap (λ (l : List ℕ). decimal w ++ l) (rw (← here-next s at b bs f, drop-drop, past))
         by-test false u g z e = absurd (none-value w j e)
+
+-- a number has the bytes up to the place after it for digits, so it is below that power of ten
+digits-below : (l : List ℕ) (v i w j k : ℕ) → v < 10 ^ k → digitsOn v i l ≡ Value w j → (i ≤ j) × (w < 10 ^ (k + (j - i)))
+unfolding digitsOn choose
+digits-below [] v i w j k h e =
+    let z : v ≡ w = cc in
+    let y : i ≡ j = cc in
+    (omega arith, rw (← z, y, sub-self, add-zero) h)
+digits-below (b ∷ bs) v i w j k h e =
+    by-test (leb (digitOf b) 9) refl e (digits-below bs (v * 10 + digitOf b) (i + 1) w j (suc k))
+  where
+    by-test : (t : Bool) →
+        leb (digitOf b) 9 ≡ t →
+        choose t (digitsOn (v * 10 + digitOf b) (i + 1) bs) (Value v i) ≡ Value w j →
+        (v * 10 + digitOf b < 10 ^ suc k →
+        digitsOn (v * 10 + digitOf b) (i + 1) bs ≡ Value w j →
+        (i + 1 ≤ j) × (w < 10 ^ (suc k + (j - (i + 1))))) →
+        (i ≤ j) × (w < 10 ^ (k + (j - i)))
+    by-test true g e ih =
+        let f = ih (omega (arith, leb-true (digitOf b) 9 g, pow-suc 10 k)) e in
+        let z : k + (j - i) ≡ suc k + (j - (i + 1)) = omega (arith, f .0) in
+        (omega (arith, f .0), rw z (f .1))
+    by-test false g e ih =
+        let z : v ≡ w = cc in
+        let y : i ≡ j = cc in
+        (omega arith, rw (← z, y, sub-self, add-zero) h)
+
+pub numeral-below : (s : List ℕ) (at w j : ℕ) → numeralAt s at ≡ Value w j → (at ≤ j) × (w < 10 ^ (j - at))
+unfolding numeralOn choose
+numeral-below s at w j e = go (drop at s) e
+  where
+    go : (l : List ℕ) → numeralOn at l ≡ Value w j → (at ≤ j) × (w < 10 ^ (j - at))
+    go [] e = absurd (none-value w j e)
+    go (b ∷ bs) e = by-test (leb (digitOf b) 9) (eqb (digitOf b) 0) refl e
+      where
+        by-test : (t u : Bool) →
+            leb (digitOf b) 9 ≡ t →
+            choose t (choose u (Value 0 (at + 1)) (digitsOn (digitOf b) (at + 1) bs)) NoNumeral ≡ Value w j →
+            (at ≤ j) × (w < 10 ^ (j - at))
+        by-test true true g e =
+            let x : 0 ≡ w = cc in
+            let y : at + 1 ≡ j = cc in
+            let z : j - at ≡ 1 = omega arith in
+            (omega arith, rw z (omega arith))
+        by-test true false g e =
+            let f = digits-below bs (digitOf b) (at + 1) w j 1 (omega (arith, leb-true (digitOf b) 9 g)) e in
+            let z : j - at ≡ 1 + (j - (at + 1)) = omega (arith, f .0) in
+            (omega (arith, f .0), rw z (f .1))
+        by-test false u g e = absurd (none-value w j e)
 
 -- a number's text reads back, and the reader goes on with what follows it
 numeral-on : (k w i : ℕ) (l : List ℕ) → w ≤ k → 0 < w → numeralOn i (decimal w ++ l) ≡ digitsOn w (i + length (decimal w)) l

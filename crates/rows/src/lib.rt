@@ -1,0 +1,34 @@
+// Rows of input: where they end in a buffer that is refilled, and the event that a row says.
+ghost use mathlib.Core.Path.{_≡_};
+ghost use Rattle.rows.specs.Row.{rowOf};
+
+pub mod cut; // cut.rt: rows are cut at CRLF
+mod field; // field.rt: a row's fields
+mod kind; // kind.rt: each kind of row
+pub mod types; // types.rt: what is answered
+
+use types::Refusal;
+use types::Row;
+
+// The event that a row says, whatever its bytes, or why it says none.
+pub fn read_row(s: &[u8]) -> Row
+    ensures { λ r. ⌜ r ≡ rowOf (now (s .entry)) ⌝ }
+{
+    if 256 < s.len() {
+        return Row::Refused(Refusal::Row);
+    }
+    if s.len() == 0 {
+        return Row::Refused(Refusal::Row);
+    }
+    let letter = s[0];
+    match letter {
+        b'L' => kind::list(s),
+        b'T' => kind::trade(s),
+        b'X' => kind::exercise(s),
+        b'D' => kind::decline(s),
+        b'M' => kind::mark(s),
+        b'I' => kind::intraday(s),
+        b'V' => kind::evening(s),
+        _ => Row::Refused(Refusal::Row),
+    }
+}
