@@ -35,9 +35,14 @@ pub line-length : (row kind : ℕ) (series account amount : List ℕ) →
 unfolding line
 line-length row kind series account amount h s a x =
     let tail = account ++ 44 ∷ (amount ++ crlf) in
-    omega
-    (arith, heading-length row kind h, length-append (heading row kind) (series ++ 44 ∷ tail), length-append series (44 ∷ tail),
-    length-append account (44 ∷ (amount ++ crlf)), length-append amount crlf)
+    omega (
+      arith,
+      heading-length row kind h,
+      length-append (heading row kind) (series ++ 44 ∷ tail),
+      length-append series (44 ∷ tail),
+      length-append account (44 ∷ (amount ++ crlf)),
+      length-append amount crlf,
+    )
 
 pub header-length : length header ≤ 64
 header-length = omega arith

@@ -1,7 +1,7 @@
 // The output of a session. Each function puts its text at a place of the buffer and returns the place after it.
-use book::state::Step;
 use crate::field;
 use crate::lines;
+use book::state::Step;
 use exercise::types::PLACES;
 use series::state::Series;
 use terms::bounds::ACCOUNTS;
@@ -77,13 +77,7 @@ pub fn futures(
 }
 
 // All lines of a row: its answer, the money of all accounts, and the futures that arose. `before` is the series before its step.
-pub fn report(
-    out: &mut [u8],
-    at: usize,
-    row: u64,
-    before: [Series; SERIES],
-    step: Step,
-) -> usize
+pub fn report(out: &mut [u8], at: usize, row: u64, before: [Series; SERIES], step: Step) -> usize
     requires { ⌜ at + 36928 ≤ length (now out) ⌝ }
     ensures { λ r. ⌜ Put (now (out .entry)) at (rule.reportOf row before step) (now (out .exit)) r ⌝ }
     ensures { λ r. ⌜ r ≤ at + 36928 ⌝ }

@@ -1,0 +1,39 @@
+-- `replay::pass` meets its contract.
+use mathlib.Core.Path.{sym}
+use lib.Seq.{length-take-le}
+use borrow.Author.Needs.{needs}
+use Rattle.replay.proofs.pass.Statement.{statement}
+use Rattle.replay.proofs.pass.Tie as tie
+
+slice-reshare-prefix-whole-rows : tie.Need-slice-reshare-prefix-whole-rows
+slice-reshare-prefix-whole-rows c = search needs
+
+slice-aggregate-whole-rows : tie.Need-slice-aggregate-whole-rows
+slice-aggregate-whole-rows c = sym (length-take-le _ _ (c .before .before .before .pre .3))
+
+whole-rows-requires : tie.Need-whole-rows-requires
+whole-rows-requires c κs = search needs
+
+keep-requires : tie.Need-keep-requires
+keep-requires c κs = search needs
+
+same-length : tie.Need-same-length
+same-length c = search needs
+
+same-length-2 : tie.Need-same-length-2
+same-length-2 c = search needs
+
+returns : tie.Need-returns
+returns c = search needs
+
+pub pass-spec : {M : Type 1} → statement M
+pass-spec =
+    tie.close
+    (tie.spec
+    slice-reshare-prefix-whole-rows
+    slice-aggregate-whole-rows
+    whole-rows-requires
+    keep-requires
+    same-length
+    same-length-2
+    returns)

@@ -1,0 +1,82 @@
+-- `replay::replayed` meets its contract: between two reads the book is good, and there is room for the lines of one more row.
+use borrow.Author.Needs.{needs}
+use mathlib.Core.Path.{_≡_, refl}
+use Prim.Native.Nat.{_≤_}
+use native.Mathlib.Omega.{arith}
+use lib.ListN.{length}
+use Rattle.book.specs.Good.{Good}
+use Rattle.replay.proofs.replayed.Statement.{statement}
+use Rattle.replay.proofs.replayed.Tie as tie
+
+abbrev Inv-loop : tie.InvT-loop
+Inv-loop buf₀ out₀ at run₀ turns₀ buf out run turns = 
+    (Good (run .replay .book)) × (run .replay .at ≤ 28608) × (run .have ≤ length buf) × (65536 ≤ length out) × (length buf ≡ length buf₀) × (length out ≡ length out₀)
+
+abbrev μ-loop : tie.MeasureT-loop
+μ-loop buf₀ out₀ at run₀ turns₀ buf out run turns = turns
+
+header-requires : tie.Need-header-requires Inv-loop μ-loop
+header-requires c κs = omega (arith, c .before .before .before .pre)
+
+empty-requires : tie.Need-empty-requires Inv-loop μ-loop
+empty-requires c κs = search needs
+
+loop-holds : tie.Need-loop-holds Inv-loop μ-loop
+loop-holds c =
+    let h = c .before .before .before .header in
+    (c .empty .ensures .1, omega (arith, h .ensures .1), omega arith, omega (arith, h .kept .0, c .before .before .before .before .before .before .before .pre), refl, refl)
+
+turn-requires : tie.Need-turn-requires Inv-loop μ-loop
+turn-requires c κs =
+    let l = c .before .before .before .loop in
+    (l .inv .0, l .inv .1, l .inv .3, l .inv .2)
+
+sub-turns : tie.Need-sub-turns Inv-loop μ-loop
+sub-turns c = omega (arith, c .before .before .before .before .before .before .before .before .loop-test .taken)
+
+loop-less : tie.Need-loop-less Inv-loop μ-loop
+loop-less c = omega (arith, c .before .before .before .before .before .before .before .before .loop-test .taken)
+
+loop-again : tie.Need-loop-again Inv-loop μ-loop
+loop-again c =
+    let l = c .before .before .before .before .before .before .before .before .before .loop in
+    let t = c .before .before .before .before .before .turn in
+    (t .ensures .0, t .ensures .1, omega (arith, t .ensures .2, t .kept .0), omega (arith, t .kept .1, l .inv .3), omega (arith, t .kept .0, l .inv .4), omega (arith, t .kept .1, l .inv .5))
+
+same-length : tie.Need-same-length Inv-loop μ-loop
+same-length c = omega (arith, c .before .loop .inv .4)
+
+same-length-2 : tie.Need-same-length-2 Inv-loop μ-loop
+same-length-2 c = omega (arith, c .before .loop .inv .5, c .before .before .before .before .before .header .kept .0)
+
+returns : tie.Need-returns Inv-loop μ-loop
+returns c = c .before .loop .inv .1
+
+same-length-3 : tie.Need-same-length-3 Inv-loop μ-loop
+same-length-3 c = omega (arith, c .before .before .before .before .before .turn .kept .0, c .before .before .before .before .before .before .before .before .before .loop .inv .4)
+
+same-length-4 : tie.Need-same-length-4 Inv-loop μ-loop
+same-length-4 c = omega (arith, c .before .before .before .before .before .turn .kept .1, c .before .before .before .before .before .before .before .before .before .loop .inv .5, c .before .before .before .before .before .before .before .before .before .before .before .before .before .header .kept .0)
+
+returns-2 : tie.Need-returns-2 Inv-loop μ-loop
+returns-2 c = c .before .before .before .before .before .turn .ensures .1
+
+pub replayed-spec : {M : Type 1} → statement M
+replayed-spec =
+    tie.close
+    (tie.spec
+    Inv-loop
+    μ-loop
+    header-requires
+    empty-requires
+    loop-holds
+    turn-requires
+    sub-turns
+    loop-less
+    loop-again
+    same-length
+    same-length-2
+    returns
+    same-length-3
+    same-length-4
+    returns-2)

@@ -1,0 +1,79 @@
+-- `replay::turn` meets its contract.
+use mathlib.Core.Path.{_≡_}
+use Prim.Native.Nat.{ℕ, _≤_}
+use native.Mathlib.Omega.{arith}
+use Rattle.replay.specs.Input.{Within}
+use Rattle.replay.specs.declared.Input.{Input}
+use Rattle.replay.specs.declared.Input.the-variants.{UpTo}
+use borrow.Author.Needs.{needs}
+use Rattle.replay.proofs.turn.Statement.{statement}
+use Rattle.replay.proofs.turn.Tie as tie
+
+-- input that goes up to a place of the buffer
+reached : (n end : ℕ) (r : Input) → Within n r → r ≡ UpTo end → end ≤ n
+unfolding Within
+reached n end r w e = rw e at w
+
+fill-requires : tie.Need-fill-requires
+fill-requires c κs = search needs
+
+enum-known-end : tie.Need-enum-known-end
+enum-known-end c = search needs
+
+pass-requires : tie.Need-pass-requires
+pass-requires c κs =
+    let s = c .before .before .before .before .before .before .before .before .before .before .before .before in
+    let f = c .before .before .before .before .before .before .before .fill in
+    (s .pre .0, s .pre .1, s .pre .2, omega (arith, reached _ _ _ (f .ensures) (c .before .before .before .end .given .1), f .kept .0))
+
+enum-told : tie.Need-enum-told
+enum-told c = search needs
+
+last-row-requires : tie.Need-last-row-requires
+last-row-requires c κs = search needs
+
+enum-told-2 : tie.Need-enum-told-2
+enum-told-2 c = search needs
+
+same-length : tie.Need-same-length
+same-length c = search needs
+
+same-length-2 : tie.Need-same-length-2
+same-length-2 c = search needs
+
+returns : tie.Need-returns
+returns c = search needs
+
+same-length-3 : tie.Need-same-length-3
+same-length-3 c = search needs
+
+same-length-4 : tie.Need-same-length-4
+same-length-4 c = search needs
+
+returns-2 : tie.Need-returns-2
+returns-2 c = search needs
+
+same-length-5 : tie.Need-same-length-5
+same-length-5 c = search needs
+
+returns-3 : tie.Need-returns-3
+returns-3 c = search needs
+
+pub turn-spec : {M : Type 1} → statement M
+turn-spec =
+    tie.close
+    (tie.spec
+    fill-requires
+    enum-known-end
+    pass-requires
+    enum-told
+    last-row-requires
+    enum-told-2
+    same-length
+    same-length-2
+    returns
+    same-length-3
+    same-length-4
+    returns-2
+    same-length-5
+    returns-3)

@@ -1,0 +1,160 @@
+// Replays rows of events: standard input to standard output, in a loop that holds the book.
+mod number;
+mod row;
+
+use report::lines;
+use row::Replay;
+use row::answer_row;
+use row::flushed;
+use row::whole_rows;
+use rows::cut;
+ghost use Prim.Native.Nat.{_+_, _≤_, _<_};
+ghost use lib.ListN.{length};
+ghost use Rattle.book.specs.Good.{Good};
+ghost use Rattle.replay.specs.Input.{Within};
+
+// What a read gave: input up to a place of the buffer, its end, or an error.
+pub enum Input {
+    UpTo(usize),
+    Ended,
+    Failed,
+}
+
+// Reads once behind what is kept.
+fn fill(buf: &mut [u8], have: usize) -> Input
+    requires { ⌜ have ≤ length (now buf) ⌝ }
+    ensures { λ r. ⌜ Within (length (now (buf .entry))) r ⌝ }
+{
+    let got = libc::read(0, &mut buf[have..]);
+    if got < 0 {
+        return Input::Failed;
+    }
+    let n = io::count(got, &buf[have..]);
+    if n == 0 {
+        return Input::Ended;
+    }
+    Input::UpTo(have + n)
+}
+
+// Keeps what stands between two places of the buffer, at its front.
+fn keep(buf: &mut [u8], from: usize, end: usize) -> usize
+    requires { ⌜ end ≤ length (now buf) ⌝ }
+    ensures { λ r. ⌜ r ≤ length (now (buf .entry)) ⌝ }
+{
+    let start = cut::kept_from(from, end);
+    cut::move_down(&mut buf[..end], start)
+}
+
+// The replay, how many bytes of an unfinished row are kept at the buffer's front, and whether there is more to read.
+pub struct Run {
+    pub replay: Replay,
+    pub have: usize,
+    pub going: bool,
+}
+
+// The rows that end in the buffer, whose input goes up to a place.
+fn pass(buf: &mut [u8], out: &mut [u8], replay: Replay, end: usize) -> Run
+    requires { ⌜ (Good (replay .book)) × (replay .at ≤ 28608) × (65536 ≤ length (now out)) × (end ≤ length (now buf)) ⌝ }
+    ensures { λ r. ⌜ (Good (r .replay .book)) × (r .replay .at ≤ 28608) × (r .have ≤ length (now (buf .entry))) ⌝ }
+{
+    let passed = whole_rows(&buf[..end], out, replay);
+    let left = keep(buf, passed.from, end);
+    let next = passed.replay;
+    Run {
+        replay: next,
+        have: left,
+        going: true,
+    }
+}
+
+// The end of the input: what it left without CRLF is a row.
+fn last_row(buf: &[u8], out: &mut [u8], replay: Replay, have: usize) -> Run
+    requires { ⌜ (Good (replay .book)) × (replay .at ≤ 28608) × (65536 ≤ length (now out)) × (have ≤ length (now buf)) ⌝ }
+    ensures { λ r. ⌜ (Good (r .replay .book)) × (r .replay .at ≤ 28608) × (r .have ≤ 0) ⌝ }
+{
+    if have == 0 {
+        return Run {
+            replay: replay,
+            have: 0,
+            going: false,
+        };
+    }
+    let mut next = answer_row(&buf[..have], out, replay);
+    let at = flushed(out, next.at);
+    next.at = at;
+    Run {
+        replay: next,
+        have: 0,
+        going: false,
+    }
+}
+
+// Reads once, and goes through what was read.
+fn turn(buf: &mut [u8], out: &mut [u8], run: Run) -> Run
+    requires { ⌜ (Good (run .replay .book)) × (run .replay .at ≤ 28608) × (65536 ≤ length (now out)) × (run .have ≤ length (now buf)) ⌝ }
+    ensures { λ r. ⌜ (Good (r .replay .book)) × (r .replay .at ≤ 28608) × (r .have ≤ length (now (buf .entry))) ⌝ }
+{
+    let have = run.have;
+    let replay = run.replay;
+    match fill(buf, have) {
+        Input::UpTo(end) => pass(buf, out, replay, end),
+        Input::Ended => last_row(buf, out, replay, have),
+        Input::Failed => Run {
+            replay: replay,
+            have: 0,
+            going: false,
+        },
+    }
+}
+
+// The header, and then the rows of the whole input; answers how many bytes of output still wait.
+fn replayed(buf: &mut [u8], out: &mut [u8]) -> usize
+    requires { ⌜ 65536 ≤ length (now out) ⌝ }
+    ensures { λ r. ⌜ r ≤ 28608 ⌝ }
+{
+    let at = lines::header(out, 0);
+    let book = book::empty();
+    let mut run = Run {
+        replay: Replay {
+            book: book,
+            row: 0,
+            at: at,
+        },
+        have: 0,
+        going: true,
+    };
+    let mut turns = u64::MAX;
+    while turns > 0 {
+        let next = turn(buf, out, run);
+        run = next;
+        let going = run.going;
+        if !going {
+            break;
+        }
+        turns -= 1;
+    }
+    run.replay.at
+}
+
+// Writes what waits in the output.
+fn finish(out: &[u8], at: usize)
+    requires { ⌜ at ≤ length (now out) ⌝ }
+{
+    io::write_all(1, &out[..at]);
+}
+
+fn with_input(out: &mut [u8]) -> usize
+    requires { ⌜ 65536 ≤ length (now out) ⌝ }
+    ensures { λ r. ⌜ r ≤ 28608 ⌝ }
+{
+    let mut space = io::large_buffer();
+    let buf: &mut [u8] = &mut space;
+    replayed(buf, out)
+}
+
+fn main() {
+    let mut text = io::large_buffer();
+    let out: &mut [u8] = &mut text;
+    let at = with_input(out);
+    finish(out, at);
+}
