@@ -123,21 +123,21 @@ cut-at (b ∷ c ∷ bs) i n e = by-test (startsCrlf (b ∷ c ∷ bs)) n e (cut-a
         let y : suc m + 2 ≡ suc (m + 2) = omega arith in
         rw y (first (cut (c ∷ bs)) m (ih m (e ∙ ap At z)))
 
--- The same in a buffer, from a place on.
-module _ (s : List ℕ) (from : ℕ) where
-  pub no-row : endFrom s from ≡ NoEnd → cut (drop from s) ≡ record { rows = []; rest = drop from s }
-  no-row e = cut-none (drop from s) from e
+-- The same in a buffer, by what the search from a place on answered.
+module _ (s : List ℕ) (from : ℕ) (r : End) (p : r ≡ endFrom s from) where
+  pub no-row : r ≡ NoEnd → cut (drop from s) ≡ record { rows = []; rest = drop from s }
+  no-row q = cut-none (drop from s) from (sym p ∙ q)
 
-  module _ (end : ℕ) (e : endFrom s from ≡ At end) where
+  module _ (end : ℕ) (q : r ≡ At end) where
     pub row-fits : (from ≤ end) × (end + 2 ≤ length s)
     row-fits =
-        let f = end-fits (drop from s) from end e in
+        let f = end-fits (drop from s) from end (sym p ∙ q) in
         (f .0, omega (arith, f .0, f .1, length-drop from s))
 
     pub next-row : cut (drop from s) ≡ rowBefore (take (end - from) (drop from s)) (cut (drop (end + 2) s))
     next-row =
         let z : end ≡ from + (end - from) = omega (arith, row-fits .0) in
         let y : from + (end - from + 2) ≡ end + 2 = omega (arith, row-fits .0) in
-        cut-at (drop from s) from (end - from) (e ∙ ap At z)
+        cut-at (drop from s) from (end - from) (sym p ∙ q ∙ ap At z)
         ∙ ap (λ (l : List ℕ). rowBefore (take (end - from) (drop from s)) (cut l))
         (drop-drop (end - from + 2) from s ∙ ap (λ (k : ℕ). drop k s) y)

@@ -1,6 +1,5 @@
 // The fields of a row. Each stands behind a comma and is read with it; its reader answers the place after it, or that there is none.
 ghost use mathlib.Core.Path.{_≡_};
-ghost use Prim.Native.Nat.{min};
 ghost use Rattle.rows.specs.Field.{shortAt, numberAt, heldInByte, byteAt, codeOn, codeEnd};
 ghost use lib.ListN.{drop};
 use crate::types::End;
