@@ -6,6 +6,11 @@ use crate::types::End;
 use decimal::Numeral;
 use decimal::read;
 
+// The most digits of a number, and the least number with more.
+const MAX_DIGITS: usize = 18;
+
+const TOO_LARGE: u64 = 1000000000000000000;
+
 // A number that a byte holds: a series or an account.
 pub enum ByteRead {
     Byte { value: u8, next: usize },
@@ -16,10 +21,10 @@ pub enum ByteRead {
 fn short(s: &[u8], at: usize) -> Numeral
     ensures { λ r. ⌜ r ≡ shortAt (now (s .entry)) at ⌝ }
 {
-    let Numeral::Value { value, next } = read::numeral(s, at, 1000000000000000000) else {
+    let Numeral::Value { value, next } = read::numeral(s, at, TOO_LARGE) else {
         return Numeral::NoNumeral;
     };
-    if 18 < next - at {
+    if MAX_DIGITS < next - at {
         return Numeral::NoNumeral;
     }
     Numeral::Value { value, next }
