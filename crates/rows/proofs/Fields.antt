@@ -7,7 +7,7 @@ use native.Mathlib.Nat.{pow-le-pow-right}
 use native.Mathlib.Omega.{arith}
 use lib.ListN.{length, drop, getD, drop-of-length-le, length-drop}
 use lib.Dec.{eqb}
-use borrow.Author.Tests.{le-leb, lt-leb, eq-eqb, ne-eqb}
+use borrow.Author.Tests.{le-leb, lt-leb, ne-eqb}
 use Rattle.choice.specs.Choice.{choose}
 use Rattle.decimal.specs.Read.{numeralAt, capped, onNumeral}
 use Rattle.decimal.specs.declared.Numeral.{Numeral}
@@ -15,7 +15,7 @@ use Rattle.decimal.specs.declared.Numeral.the-variants.{Value, NoNumeral}
 use Rattle.decimal.proofs.Places.{drop-next, byte-past}
 use Rattle.decimal.proofs.Numerals.{numeral-below, none-value}
 use Rattle.decimal.proofs.Reading.{capped-none}
-use Rattle.rows.specs.Field.{shortAt, numberAt, heldInByte, byteAt, onByte, codeOn, codeEnd, onEnd}
+use Rattle.rows.specs.Field.{shortAt, numberAt, heldInByte, onByte, codeOn, codeEnd, onEnd}
 use Rattle.rows.proofs.Ends.{none-at}
 use Rattle.rows.specs.declared.types.End.{End}
 use Rattle.rows.specs.declared.types.End.the-variants.{At, NoEnd}

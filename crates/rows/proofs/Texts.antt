@@ -1,5 +1,5 @@
 -- A field's text and what is read from it: each is the other's inverse.
-use Prim.Native.Nat.{ℕ, zero, suc, _+_, _-_, _≤_, _<_}
+use Prim.Native.Nat.{ℕ, zero, suc, _+_, _-_, _<_}
 use mathlib.Core.Path.{_≡_, refl, sym, ap, _∙_}
 use mathlib.Core.Bool.{Bool, true, false}
 use mathlib.Core.List.{List, [], _∷_, _++_}
@@ -21,7 +21,6 @@ use Rattle.rows.specs.Field.{shortAt, numberAt, heldInByte, byteAt, onBy
 use Rattle.rows.specs.Grammar.{fieldsText, Short, Plain}
 use Rattle.rows.specs.declared.types.End.{End}
 use Rattle.rows.specs.declared.types.End.the-variants.{At, NoEnd}
-use Rattle.rows.specs.declared.field.ByteRead.{ByteRead}
 use Rattle.rows.specs.declared.field.ByteRead.the-variants.{Byte, NoByte}
 use Rattle.rows.proofs.Ends.{none-at}
 use Rattle.rows.proofs.Fields.{code-fits}

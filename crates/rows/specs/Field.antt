@@ -12,9 +12,12 @@ use Rattle.rows.specs.declared.types.End.the-variants.{At, NoEnd}
 use Rattle.rows.specs.declared.field.ByteRead.{ByteRead}
 use Rattle.rows.specs.declared.field.ByteRead.the-variants.{Byte, NoByte}
 
+abbrev pub maxDigits : ℕ
+maxDigits = 18
+
 -- "decimal without leading zeros", "at most 18 digits": all digits that stand at a place, up to the place n after them
 unfoldable pub shortAt : List ℕ → ℕ → Numeral
-shortAt s at = onNumeral (numeralAt s at) NoNumeral (λ v n. choose (leb (n - at) 18) (Value v n) NoNumeral)
+shortAt s at = onNumeral (numeralAt s at) NoNumeral (λ v n. choose (leb (n - at) maxDigits) (Value v n) NoNumeral)
 
 unfoldable pub numberAt : List ℕ → ℕ → Numeral
 numberAt s at = choose (eqb (getD s at 0) 44) (shortAt s (at + 1)) NoNumeral

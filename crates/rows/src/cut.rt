@@ -5,6 +5,10 @@ ghost use lib.ListN.{length, drop};
 ghost use Rattle.rows.specs.Cut.{startsCrlf, endFrom, keptFrom, movedDown};
 use crate::types::End;
 
+// How many bytes of an unfinished row are kept: with them a row that is too long stays so, whether or not the last is the CR of its
+// CRLF.
+const KEPT: usize = 258;
+
 // Whether CR LF stand at a place.
 fn crlf(s: &[u8], i: usize) -> bool
     requires { ⌜ i < length (now s) ⌝ }
@@ -33,15 +37,14 @@ pub fn row_end(s: &[u8], from: usize) -> End
     End::NoEnd
 }
 
-// Of an unfinished row that starts at a place and goes to the end of the input so far: where what is kept of it starts. A row of more
-// than 256 bytes is refused whatever it holds, so the last 258 are enough.
+// Of an unfinished row that starts at a place and goes to the end of the input so far: where what is kept of it starts.
 pub fn kept_from(from: usize, end: usize) -> usize
     ensures { λ r. ⌜ r ≡ keptFrom from end ⌝ }
 {
-    if end < 258 {
+    if end < KEPT {
         return from;
     }
-    let last = end - 258;
+    let last = end - KEPT;
     if last < from { from } else { last }
 }
 

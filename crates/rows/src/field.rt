@@ -1,11 +1,15 @@
 // The fields of a row. Each stands behind a comma and is read with it; its reader answers the place after it, or that there is none.
 ghost use mathlib.Core.Path.{_≡_};
-ghost use Prim.Native.Nat.{min};
 ghost use Rattle.rows.specs.Field.{shortAt, numberAt, heldInByte, byteAt, codeOn, codeEnd};
 ghost use lib.ListN.{drop};
 use crate::types::End;
 use decimal::Numeral;
 use decimal::read;
+
+// The most digits of a number, and the least number with more.
+const MAX_DIGITS: usize = 18;
+
+const TOO_LARGE: u64 = 1000000000000000000;
 
 // A number that a byte holds: a series or an account.
 pub enum ByteRead {
@@ -17,10 +21,10 @@ pub enum ByteRead {
 fn short(s: &[u8], at: usize) -> Numeral
     ensures { λ r. ⌜ r ≡ shortAt (now (s .entry)) at ⌝ }
 {
-    let Numeral::Value { value, next } = read::numeral(s, at, 1000000000000000000) else {
+    let Numeral::Value { value, next } = read::numeral(s, at, TOO_LARGE) else {
         return Numeral::NoNumeral;
     };
-    if 18 < next - at {
+    if MAX_DIGITS < next - at {
         return Numeral::NoNumeral;
     }
     Numeral::Value { value, next }

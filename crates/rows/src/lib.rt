@@ -10,11 +10,14 @@ pub mod types; // types.rt: what is answered
 use types::Refusal;
 use types::Row;
 
+// The most bytes of a row without its CRLF.
+const MAX_ROW: usize = 256;
+
 // The event that a row says, whatever its bytes, or why it says none.
 pub fn read_row(s: &[u8]) -> Row
     ensures { λ r. ⌜ r ≡ rowOf (now (s .entry)) ⌝ }
 {
-    if 256 < s.len() {
+    if MAX_ROW < s.len() {
         return Row::Refused(Refusal::Row);
     }
     if s.len() == 0 {

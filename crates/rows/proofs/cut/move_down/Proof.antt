@@ -2,7 +2,7 @@
 use Prim.Native.Nat.{_+_, _-_, _≤_}
 use mathlib.Core.Path.{_≡_, refl}
 use native.Mathlib.Omega.{arith}
-use lib.ListN.{length, drop, length-drop, length-set}
+use lib.ListN.{length, length-set}
 use Rattle.rows.proofs.Buffer.{partly, moved-more, moved-all}
 use Rattle.rows.proofs.cut.move_down.Statement.{statement}
 use Rattle.rows.proofs.cut.move_down.Tie as tie
