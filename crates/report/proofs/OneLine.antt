@@ -1,11 +1,11 @@
 -- A line of the output: how long it is, and how it comes to stand in a buffer.
-use mathlib.Core.Path.{_≡_, refl, sym, ap, _∙_}
+use mathlib.Core.Path.{_≡_}
 use mathlib.Core.Bool.{Bool, true, false}
 use mathlib.Core.List.{List, [], _∷_, _++_, append-assoc}
-use Prim.Native.Nat.{ℕ, zero, suc, _+_, _*_, _^_, _≤_, _<_}
+use Prim.Native.Nat.{ℕ, _+_, _^_, _≤_, _<_}
 use native.Mathlib.Omega.{arith}
 use lib.Dec.{eqb}
-use lib.IntN.{ℤ, pos, natAbs}
+use lib.IntN.{ℤ, natAbs}
 use lib.ListN.{length, length-append}
 use mir.Syntax.{w64}
 use mir.Val.{SFits}
@@ -35,9 +35,14 @@ pub line-length : (row kind : ℕ) (series account amount : List ℕ) →
 unfolding line
 line-length row kind series account amount h s a x =
     let tail = account ++ 44 ∷ (amount ++ crlf) in
-    omega
-    (arith, heading-length row kind h, length-append (heading row kind) (series ++ 44 ∷ tail), length-append series (44 ∷ tail),
-    length-append account (44 ∷ (amount ++ crlf)), length-append amount crlf)
+    omega (
+      arith,
+      heading-length row kind h,
+      length-append (heading row kind) (series ++ 44 ∷ tail),
+      length-append series (44 ∷ tail),
+      length-append account (44 ∷ (amount ++ crlf)),
+      length-append amount crlf,
+    )
 
 pub header-length : length header ≤ 64
 header-length = omega arith

@@ -1,6 +1,6 @@
 // One line of the output, of at most 64 bytes. Each function puts its text at a place of the buffer and returns the place after it.
-use book::state::Found;
 use crate::field;
+use book::state::Found;
 use decimal::put;
 ghost use mathlib.Core.List.{[], _∷_, _++_};
 ghost use Prim.Native.Nat.{_+_, _≤_};
