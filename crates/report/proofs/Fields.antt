@@ -3,9 +3,7 @@ use mathlib.Core.Path.{_≡_, refl, ap, _∙_}
 use mathlib.Core.Bool.{Bool, true, false}
 use mathlib.Core.List.{List, [], _∷_, _++_}
 use Prim.Native.Nat.{ℕ, _+_, _/_, _%_, _^_, _≤_, _<_}
-use native.Mathlib.Nat.{add-zero}
 use native.Mathlib.Omega.{arith}
-use lib.Dec.{lit<}
 use lib.IntN.{ℤ, pos, natAbs}
 use lib.ListN.{length, length-append}
 use lib.Seq.{length-sets}
@@ -69,9 +67,11 @@ magnitude-length z f = length-below 18 (natAbs z) (omega (arith, abs-sfits z f))
 pub roubles-length : (z : ℤ) → SFits w64 z → length (decimal (natAbs z / 100)) ≤ 17
 roubles-length z f = length-below 16 (natAbs z / 100) (omega (arith, abs-sfits z f))
 
-pub series-length : (i : ℕ) → i < 256 → length (seriesText (At i)) ≤ 3
+-- a series in a byte, where one is named
+pub series-length : (found : Found) → ((i : ℕ) → found ≡ At i → i < 256) → length (seriesText found) ≤ 3
 unfolding seriesText
-series-length i h = byte-length i h
+series-length (At i) h = byte-length i (h i refl)
+series-length Nothing h = omega arith
 
 pub count-length : (z : ℤ) → SFits w64 z → length (countText z) ≤ 20
 unfolding countText
@@ -80,4 +80,11 @@ count-length z f = omega (arith, length-append (sign z) (decimal (natAbs z)), si
 pub amount-length : (z : ℤ) → SFits w64 z → length (amountText z) ≤ 21
 unfolding amountText
 amount-length z f =
-    omega (arith, length-append (sign z) (decimal (natAbs z / 100) ++ 46 ∷ twoDigits (natAbs z % 100)), length-append (decimal (natAbs z / 100)) (46 ∷ twoDigits (natAbs z % 100)), sign-length z, roubles-length z f)
+    let kopecks : List ℕ = 46 ∷ twoDigits (natAbs z % 100) in
+    omega (
+      arith,
+      length-append (sign z) (decimal (natAbs z / 100) ++ kopecks),
+      length-append (decimal (natAbs z / 100)) kopecks,
+      sign-length z,
+      roubles-length z f,
+    )

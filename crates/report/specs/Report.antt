@@ -1,5 +1,6 @@
 -- The output lines of one row (01, "Rows"): "A: refusal number or 0, with a series where one is named; M: roubles, two places, where not
 -- 0; F: futures arisen in that session, where not 0; M by account, then F by series and account".
+use mathlib.Core.Bool.{Bool, true, false}
 use mathlib.Core.List.{List, [], _++_}
 use Prim.Native.Nat.{ℕ}
 use lib.Dec.{eqb}
@@ -12,6 +13,9 @@ use Rattle.series.specs.declared.state.Series.{Series}
 use Rattle.terms.specs.Bounds.{accounts, seriesRoom}
 use Rattle.book.specs.Answers.{answerNumber, named}
 use Rattle.book.specs.State.{noSeries}
+use Rattle.book.specs.declared.state.Answer.{Answer}
+use Rattle.book.specs.declared.state.Event.{Event}
+use Rattle.book.specs.declared.state.Event.the-variants as event
 use Rattle.book.specs.declared.state.Found.{Found}
 use Rattle.book.specs.declared.state.Step.{Step}
 use Rattle.report.specs.Lines.{line, kindA, kindM, kindF, countText, amountText, seriesText, joined}
@@ -46,8 +50,20 @@ futuresIn series i = getD series i noSeries .futures
 abbrev pub futuresLines : ℕ → List Series → List Series → List ℕ
 futuresLines row before after = joined seriesRoom (λ i. seriesLines row i (futuresIn before i) (futuresIn after i))
 
+-- A of an answer
+abbrev pub answerOf : ℕ → Answer → List ℕ
+answerOf row answer = answerLine row (named answer) (answerNumber answer)
+
 -- all lines of a row that is an event: the series before it, and its step
 unfoldable pub reportOf : ℕ → List Series → Step → List ℕ
-reportOf row before step =
-    answerLine row (named (step .answer)) (answerNumber (step .answer))
-    ++ (moneyLines row (step .money) ++ futuresLines row before (step .book .series))
+reportOf row before step = answerOf row (step .answer) ++ (moneyLines row (step .money) ++ futuresLines row before (step .book .series))
+
+-- whether an event is a session
+unfoldable pub isSession : Event → Bool
+isSession (event.List option category strike tick last) = false
+isSession (event.Trade i x y q p) = false
+isSession (event.Exercise i a q) = false
+isSession (event.Decline i a) = false
+isSession (event.Mark i p f w) = false
+isSession event.Intraday = true
+isSession event.Evening = true

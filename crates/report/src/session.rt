@@ -1,17 +1,27 @@
-// The output of a session. Each function puts its text at a place of the buffer and returns the place after it.
-use crate::field;
+// The lines of a row that is an event. Each function puts its text at a place of the buffer and returns the place after it.
+use crate::answers;
 use crate::lines;
+use book::state::Answer;
 use book::state::Step;
 use exercise::types::PLACES;
 use series::state::Series;
 use terms::bounds::ACCOUNTS;
 use terms::bounds::SERIES;
 ghost use Prim.Native.Nat.{_+_, _≤_};
-ghost use lib.IntN.{_-ℤ_};
 ghost use lib.ListN.{length};
 ghost use Rattle.decimal.specs.Put.{Put};
-ghost use Rattle.integer.specs.Sum.{at as element};
 ghost use Rattle.report.specs.Report as rule;
+
+// The line of an answer.
+pub fn answered(out: &mut [u8], at: usize, row: u64, answer: Answer) -> usize
+    requires { ⌜ at + 64 ≤ length (now out) ⌝ }
+    ensures { λ r. ⌜ Put (now (out .entry)) at (rule.answerOf row answer) (now (out .exit)) r ⌝ }
+    ensures { λ r. ⌜ r ≤ at + 64 ⌝ }
+{
+    let found = answers::named(answer);
+    let number = answers::answer_number(answer);
+    lines::answer(out, at, row, found, number)
+}
 
 // The money of all accounts.
 pub fn money(out: &mut [u8], at: usize, row: u64, money: [i64; ACCOUNTS]) -> usize
@@ -86,9 +96,7 @@ pub fn report(out: &mut [u8], at: usize, row: u64, before: [Series; SERIES], ste
     let paid = step.money;
     let book = step.book;
     let after = book.series;
-    let found = field::named(answer);
-    let number = field::answer_number(answer);
-    let first = lines::answer(out, at, row, found, number);
+    let first = answered(out, at, row, answer);
     let next = money(out, first, row, paid);
     futures(out, next, row, before, after)
 }

@@ -1,27 +1,20 @@
 -- `report::field::amount` meets its contract.
-use borrow.Author.Needs.{needs}
 use mathlib.Core.Path.{_≡_, ap, _∙_}
 use Prim.Native.Nat.{_+_, _/_, _≤_}
-use denote.Ref.{now}
+use native.Mathlib.Omega.{arith}
 use lib.IntN.{ℤ, natAbs}
 use lib.ListN.{length}
 use mir.Syntax.{w64}
 use mir.Val.{toZ, ofZ}
-use native.Mathlib.Omega.{arith}
-use Rattle.integer.specs.Machine.{any}
+use denote.Ref.{now}
+use borrow.Author.Needs.{needs}
 use Rattle.decimal.specs.Put.{Put}
 use Rattle.decimal.specs.Text.{decimal}
+use Rattle.integer.specs.Machine.{any}
 use Rattle.report.specs.Lines.{sign, amountText}
-use Rattle.report.proofs.Fields.{room, nothing, _then_, sign-length, magnitude-length, roubles-length, byte-length}
+use Rattle.report.proofs.Fields.{room, _then_, sign-length, roubles-length}
 use Rattle.report.proofs.field.amount.Statement.{statement}
 use Rattle.report.proofs.field.amount.Tie as tie
-use Rattle.report.proofs.field.amount.Reads as reads
-use Rattle.report.proofs.field.amount.Lts as lts
-use Rattle.decimal.proofs.put.byte.Reads as byte-reads
-use Rattle.decimal.proofs.put.digits.Reads as digits-reads
-use Rattle.decimal.proofs.put.two_digits.Reads as two-digits-reads
-use Rattle.report.proofs.field.magnitude.Reads as magnitude-reads
-use Rattle.report.proofs.field.put_sign.Reads as put-sign-reads
 
 -- the number as it was passed, and what stands after each call
 module _ (c : tie.After-magnitude) where

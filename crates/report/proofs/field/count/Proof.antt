@@ -1,22 +1,17 @@
 -- `report::field::count` meets its contract.
-use borrow.Author.Needs.{needs}
 use mathlib.Core.Path.{_≡_, ap, _∙_}
-use denote.Ref.{now}
+use native.Mathlib.Omega.{arith}
 use lib.IntN.{natAbs}
 use mir.Syntax.{w64}
 use mir.Val.{toZ, ofZ}
-use native.Mathlib.Omega.{arith}
-use Rattle.integer.specs.Machine.{any}
+use denote.Ref.{now}
+use borrow.Author.Needs.{needs}
 use Rattle.decimal.specs.Put.{Put}
+use Rattle.integer.specs.Machine.{any}
 use Rattle.report.specs.Lines.{sign, countText}
-use Rattle.report.proofs.Fields.{room, nothing, _then_, sign-length, magnitude-length, roubles-length, byte-length}
+use Rattle.report.proofs.Fields.{room, _then_, sign-length, magnitude-length}
 use Rattle.report.proofs.field.count.Statement.{statement}
 use Rattle.report.proofs.field.count.Tie as tie
-use Rattle.report.proofs.field.count.Reads as reads
-use Rattle.report.proofs.field.count.Lts as lts
-use Rattle.decimal.proofs.put.digits.Reads as digits-reads
-use Rattle.report.proofs.field.magnitude.Reads as magnitude-reads
-use Rattle.report.proofs.field.put_sign.Reads as put-sign-reads
 
 -- the sign and the magnitude of the number as it was passed
 module _ (c : tie.After-magnitude) where
@@ -49,7 +44,9 @@ same-length c = search needs
 
 returns : tie.Need-returns
 unfolding countText
-returns c = let m = c .before .before .before in signed m then (rw (bare m) at (c .before .before .digits .ensures))
+returns c =
+    let m = c .before .before .before in
+    signed m then (rw (bare m) at (c .before .before .digits .ensures))
 
 pub count-spec : {M : Type 1} → statement M
 count-spec =

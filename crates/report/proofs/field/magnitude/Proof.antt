@@ -4,7 +4,7 @@ use mathlib.Core.Bool.{true}
 use Prim.Native.Nat.{ℕ, _+_, _^_}
 use native.Mathlib.Nat.{le-of-lt}
 use native.Mathlib.Omega.{arith}
-use lib.IntN.{pos, natAbs, _+ℤ_, _-ℤ_}
+use lib.IntN.{pos, _+ℤ_, _-ℤ_}
 use lib.Signed.{mag, ltZ}
 use mir.Syntax.{w64}
 use borrow.Author.Needs.{needs}
@@ -15,21 +15,21 @@ use Rattle.report.proofs.field.magnitude.Statement.{statement}
 use Rattle.report.proofs.field.magnitude.Tie as tie
 
 module _ (c : tie.Then1) where
-  below : ltZ (c .before .args .z) (pos 0) ≡ true
-  below = less (any w64 (c .before .fits .z)) (lit (pos 0)) (c .if1 .taken)
+  below : ltZ (c .before .args .x) (pos 0) ≡ true
+  below = less (any w64 (c .before .fits .x)) (lit (pos 0)) (c .if1 .taken)
 
-  abbrev up : Reads 9223372036854775807 (c .before .args .z +ℤ pos 1)
+  abbrev up : Reads 9223372036854775807 (c .before .args .x +ℤ pos 1)
   up =
-      let g = plus (any w64 (c .before .fits .z)) (lit (pos 1)) in
-      record { raw = g .raw; is = g .is; bound = one-up-within (c .before .args .z) below (c .before .fits .z) }
+      let g = plus (any w64 (c .before .fits .x)) (lit (pos 1)) in
+      record { raw = g .raw; is = g .is; bound = one-up-within (c .before .args .x) below (c .before .fits .x) }
 
-  abbrev negated : Reads 9223372036854775807 (pos 0 -ℤ (c .before .args .z +ℤ pos 1))
+  abbrev negated : Reads 9223372036854775807 (pos 0 -ℤ (c .before .args .x +ℤ pos 1))
   negated = minus (lit (pos 0)) (local w64 up tt)
 
-  abbrev around : Reads (2 ^ 63) (pos (mag (c .before .args .z)))
+  abbrev around : Reads (2 ^ 63) (pos (mag (c .before .args .x)))
   around =
       let g = local w64 negated tt in
-      record { raw = g .raw; is = g .is ∙ turned (c .before .args .z) below; bound = within-pos (le-of-lt (c .before .fits .z .sfits)) }
+      record { raw = g .raw; is = g .is ∙ turned (c .before .args .x) below; bound = within-pos (le-of-lt (c .before .fits .x .sfits)) }
 
 add-result : tie.Need-add-result
 add-result c = fits w64 (up c) tt
@@ -41,15 +41,15 @@ cast-result : tie.Need-cast-result
 cast-result c = unsigned-asks (around c) refl
 
 add-result-2 : tie.Need-add-result-2
-add-result-2 c = record { fits = omega (arith, unsigned-gives (around c) refl, c .before .fits .z .sfits) }
+add-result-2 c = record { fits = omega (arith, unsigned-gives (around c) refl, c .before .fits .x .sfits) }
 
 returns : tie.Need-returns
-returns c = ap (λ (n : ℕ). n + 1) (unsigned-gives (around c) refl) ∙ one-more (c .before .args .z) (below c)
+returns c = ap (λ (n : ℕ). n + 1) (unsigned-gives (around c) refl) ∙ one-more (c .before .args .x) (below c)
 
 cast-result-2 : tie.Need-cast-result-2
 cast-result-2 c =
-    let g = any w64 (c .before .fits .z) in
-    unsigned-asks g (not-below (c .before .args .z) (less g (lit (pos 0)) (c .if1 .left)))
+    let g = any w64 (c .before .fits .x) in
+    unsigned-asks g (not-below (c .before .args .x) (less g (lit (pos 0)) (c .if1 .left)))
 
 returns-2 : tie.Need-returns-2
 returns-2 c = search needs

@@ -1,10 +1,8 @@
 -- `report::field::series` meets its contract.
-use Rattle.report.proofs.Fields.{nothing, byte-length}
-use Rattle.report.specs.Lines.{seriesText}
-use lib.ListN.{length}
-use mathlib.Core.Path.{_∙_, ap}
 use native.Mathlib.Omega.{arith}
 use borrow.Author.Needs.{needs}
+use Rattle.report.specs.Lines.{seriesText}
+use Rattle.report.proofs.Fields.{nothing, byte-length}
 use Rattle.report.proofs.field.series.Statement.{statement}
 use Rattle.report.proofs.field.series.Tie as tie
 
@@ -25,7 +23,8 @@ same-length c = search needs
 
 returns : tie.Need-returns
 unfolding seriesText
-returns c = let found = c .before .before .before .before .before in
+returns c =
+    let found = c .before .before .before .before .before in
     (rw (found .found .given .1) (c .before .before .digits .ensures), omega (arith, byte-length (found .found .given .0 .0) (search needs)))
 
 returns-2 : tie.Need-returns-2

@@ -1,13 +1,13 @@
 -- `report::session::futures` meets its contract: the lines of the series passed stand in the buffer.
-use Rattle.report.proofs.Joined.{joined-put, joined-next}
+use mathlib.Core.Path.{_≡_, refl}
+use Prim.Native.Nat.{_+_, _-_, _*_, _≤_}
+use native.Mathlib.Omega.{arith}
+use lib.ListN.{length}
+use borrow.Author.Needs.{needs}
+use Rattle.decimal.specs.Put.{Put}
 use Rattle.report.specs.Report.{futuresIn, seriesLines}
 use Rattle.report.specs.Lines.{joined}
-use Rattle.decimal.specs.Put.{Put}
-use lib.ListN.{length}
-use Prim.Native.Nat.{ℕ, _+_, _-_, _*_, _≤_}
-use mathlib.Core.Path.{_≡_, refl}
-use borrow.Author.Needs.{needs}
-use native.Mathlib.Omega.{arith}
+use Rattle.report.proofs.Joined.{joined-put, joined-next}
 use Rattle.report.proofs.session.futures.Statement.{statement}
 use Rattle.report.proofs.session.futures.Tie as tie
 
@@ -46,7 +46,8 @@ loop-less : tie.Need-loop-less Inv-loop μ-loop
 loop-less c = search needs
 
 loop-again : tie.Need-loop-again Inv-loop μ-loop
-loop-again c = let loop = c .before .before .before .before .before .before .before .before .before in
+loop-again c =
+    let loop = c .before .before .before .before .before .before .before .before .before in
     let call = c .before .before .series-futures .ensures in
     (omega arith, search needs, omega (arith, call .1), joined-next (loop .loop .i) _ (loop .loop .inv .3) (call .0))
 
@@ -54,7 +55,8 @@ same-length : tie.Need-same-length Inv-loop μ-loop
 same-length c = c .before .loop .inv .1
 
 returns : tie.Need-returns Inv-loop μ-loop
-returns c = let loop = c .before .loop in
+returns c =
+    let loop = c .before .loop in
     let all : loop .i ≡ 8 = omega arith in
     (rw all at (loop .inv .3), omega arith)
 

@@ -1,19 +1,18 @@
 -- `report::session::money` meets its contract: the lines of the accounts passed stand in the buffer.
-use Rattle.report.proofs.Joined.{joined-put, joined-next, element-fits}
-use Rattle.report.proofs.OneLine.{money-length}
-use Rattle.report.specs.Report.{moneyLine}
-use Rattle.report.specs.Lines.{joined}
-use Rattle.integer.specs.Sum.{at}
-use Rattle.decimal.specs.Put.{Put}
+use mathlib.Core.Path.{_≡_, refl}
+use Prim.Native.Nat.{ℕ, _+_, _-_, _*_, _≤_}
+use native.Mathlib.Omega.{arith}
+use lib.Dec.{lit<}
+use lib.ListN.{length}
 use mir.Facts.{toZ-ofZ}
 use mir.Val.{SFits}
 use mir.Syntax.{w64}
-use lib.Dec.{lit<}
-use lib.ListN.{length}
-use Prim.Native.Nat.{ℕ, _+_, _-_, _*_, _≤_}
-use mathlib.Core.Path.{_≡_, refl, ap, _∙_}
 use borrow.Author.Needs.{needs}
-use native.Mathlib.Omega.{arith}
+use Rattle.decimal.specs.Put.{Put}
+use Rattle.integer.specs.Sum.{at}
+use Rattle.report.specs.Report.{moneyLine}
+use Rattle.report.specs.Lines.{joined}
+use Rattle.report.proofs.Joined.{joined-put, joined-next, element-fits}
 use Rattle.report.proofs.session.money.Statement.{statement}
 use Rattle.report.proofs.session.money.Tie as tie
 
@@ -50,7 +49,8 @@ loop-less : tie.Need-loop-less Inv-loop μ-loop
 loop-less c = search needs
 
 loop-again : tie.Need-loop-again Inv-loop μ-loop
-loop-again c = let start = c .before .before .before .before .before .before .before .before in
+loop-again c =
+    let start = c .before .before .before .before .before .before .before .before in
     let loop = c .before .before .before .before .before .before in
     let a = loop .loop .a in
     let put = rw (toZ-ofZ (amount-fits start a)) at (c .before .before .money .ensures .0) in
@@ -60,7 +60,8 @@ same-length : tie.Need-same-length Inv-loop μ-loop
 same-length c = c .before .loop .inv .1
 
 returns : tie.Need-returns Inv-loop μ-loop
-returns c = let loop = c .before .loop in
+returns c =
+    let loop = c .before .loop in
     let all : loop .a ≡ 64 = omega arith in
     (rw all at (loop .inv .3), omega arith)
 

@@ -1,19 +1,13 @@
 -- `report::session::report` meets its contract.
-use Rattle.report.proofs.Fields.{_then_}
-use Rattle.report.specs.Report.{reportOf}
 use native.Mathlib.Omega.{arith}
 use borrow.Author.Needs.{needs}
+use Rattle.report.specs.Report.{reportOf}
+use Rattle.report.proofs.Fields.{_then_}
 use Rattle.report.proofs.session.report.Statement.{statement}
 use Rattle.report.proofs.session.report.Tie as tie
 
-named-requires : tie.Need-named-requires
-named-requires c κs = search needs
-
-answer-number-requires : tie.Need-answer-number-requires
-answer-number-requires c κs = search needs
-
-answer-requires : tie.Need-answer-requires
-answer-requires c κs = search needs
+answered-requires : tie.Need-answered-requires
+answered-requires c κs = search needs
 
 money-requires : tie.Need-money-requires
 money-requires c κs = search needs
@@ -26,21 +20,12 @@ same-length c = search needs
 
 returns : tie.Need-returns
 unfolding reportOf
-returns c = let futures = c .before .before .futures .ensures in
+returns c =
+    let futures = c .before .before .futures .ensures in
     let paid = c .before .before .before .before .before .before in
-    let answer = paid .before .before .before .before in
-    let number = answer .before .before in
-    let first = rw (number .before .named .ensures, number .answer-number .ensures) at (answer .answer .ensures .0) in
-    (first then paid .money .ensures .0 then futures .0, omega (arith, answer .answer .ensures .1, paid .money .ensures .1, futures .1))
+    let answer = paid .before .before .before .before .answered .ensures in
+    (answer .0 then paid .money .ensures .0 then futures .0, omega (arith, answer .1, paid .money .ensures .1, futures .1))
 
 pub report-spec : {M : Type 1} → statement M
 report-spec =
-    tie.close
-    (tie.spec
-    named-requires
-    answer-number-requires
-    answer-requires
-    money-requires
-    futures-requires
-    same-length
-    returns)
+    tie.close (tie.spec answered-requires money-requires futures-requires same-length returns)

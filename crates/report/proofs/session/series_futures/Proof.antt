@@ -1,20 +1,17 @@
 -- `report::session::series_futures` meets its contract: the lines of the accounts passed stand in the buffer.
-use Rattle.report.proofs.Joined.{joined-put, joined-next, element-fits}
-use Rattle.report.proofs.OneLine.{futures-length}
-use Rattle.report.specs.Report.{arisen, futuresLine, seriesLines}
-use Rattle.report.specs.Lines.{joined}
-use Rattle.integer.specs.Sum.{at}
-use Rattle.integer.specs.Machine.{Reads, any, minus, local, fits}
-use Rattle.integer.specs.Bounds.{within-fits}
-use Rattle.decimal.specs.Put.{Put}
-use mir.Val.{SFits}
-use mir.Syntax.{w32, w64}
+use mathlib.Core.Path.{_≡_, refl}
+use Prim.Native.Nat.{ℕ, _+_, _-_, _*_, _≤_}
+use native.Mathlib.Omega.{arith}
 use lib.Dec.{lit<}
 use lib.ListN.{length}
-use Prim.Native.Nat.{ℕ, _+_, _-_, _*_, _≤_}
-use mathlib.Core.Path.{_≡_, refl}
+use mir.Syntax.{w32, w64}
 use borrow.Author.Needs.{needs}
-use native.Mathlib.Omega.{arith}
+use Rattle.decimal.specs.Put.{Put}
+use Rattle.integer.specs.Sum.{at}
+use Rattle.integer.specs.Machine.{Reads, any, minus, local, fits}
+use Rattle.report.specs.Report.{arisen, futuresLine, seriesLines}
+use Rattle.report.specs.Lines.{joined}
+use Rattle.report.proofs.Joined.{joined-put, joined-next, element-fits}
 use Rattle.report.proofs.session.series_futures.Statement.{statement}
 use Rattle.report.proofs.session.series_futures.Tie as tie
 
@@ -73,7 +70,8 @@ loop-less : tie.Need-loop-less Inv-loop μ-loop
 loop-less c = search needs
 
 loop-again : tie.Need-loop-again Inv-loop μ-loop
-loop-again c = let start = c .before .before .before .before .before .before .before .before .before in
+loop-again c =
+    let start = c .before .before .before .before .before .before .before .before .before in
     let loop = c .before .before .before .before .before .before .before in
     let a = loop .loop .a in
     let put = rw (local w64 (difference start a) tt .is) at (c .before .before .futures .ensures .0) in
@@ -84,7 +82,8 @@ same-length c = c .before .loop .inv .1
 
 returns : tie.Need-returns Inv-loop μ-loop
 unfolding seriesLines
-returns c = let loop = c .before .loop in
+returns c =
+    let loop = c .before .loop in
     let all : loop .a ≡ 64 = omega arith in
     (rw all at (loop .inv .3), omega arith)
 

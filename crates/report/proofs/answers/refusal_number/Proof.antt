@@ -1,8 +1,8 @@
--- `report::field::refusal_number` meets its contract.
+-- `report::answers::refusal_number` meets its contract.
 use borrow.Author.Needs.{needs}
 use Rattle.series.specs.Refusals.{number}
-use Rattle.report.proofs.field.refusal_number.Statement.{statement}
-use Rattle.report.proofs.field.refusal_number.Tie as tie
+use Rattle.report.proofs.answers.refusal_number.Statement.{statement}
+use Rattle.report.proofs.answers.refusal_number.Tie as tie
 
 enum-told : tie.Need-enum-told
 enum-told c = search needs

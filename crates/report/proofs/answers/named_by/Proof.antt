@@ -1,17 +1,17 @@
--- `report::field::named_by` meets its contract.
+-- `report::answers::named_by` meets its contract.
 use mathlib.Core.Path.{_≡_, refl}
 use mathlib.Core.List.{List, [], _∷_}
 use Prim.Native.Nat.{ℕ}
-use denote.Enum.Declared.{tagOf}
 use types.Run.{OneOf, miss}
+use denote.Enum.Declared.{tagOf}
 use borrow.Author.Needs.{needs}
 use Rattle.series.proofs.refusal.Refusal.{the-type}
 use Rattle.series.specs.declared.refusal.Refusal.{Refusal}
 use Rattle.series.specs.declared.refusal.Refusal.the-variants.{Finished, UnknownSeries, Expired, UnknownAccount, OwnTrade, Size, Price, PositionLimit, BlotterFull, Terms, SeriesFull, NotToday, NotHeld, TickValue, SecondIntraday, NoMark}
 use Rattle.book.specs.declared.state.Found.the-variants.{Nothing}
 use Rattle.book.specs.Answers.{namedBy}
-use Rattle.report.proofs.field.named_by.Statement.{statement}
-use Rattle.report.proofs.field.named_by.Tie as tie
+use Rattle.report.proofs.answers.named_by.Statement.{statement}
+use Rattle.report.proofs.answers.named_by.Tie as tie
 
 -- the refusals but the last
 abbrev others : List ℕ

@@ -1,8 +1,8 @@
--- `report::field::answer_number` meets its contract.
+-- `report::answers::answer_number` meets its contract.
 use borrow.Author.Needs.{needs}
 use Rattle.book.specs.Answers.{answerNumber}
-use Rattle.report.proofs.field.answer_number.Statement.{statement}
-use Rattle.report.proofs.field.answer_number.Tie as tie
+use Rattle.report.proofs.answers.answer_number.Statement.{statement}
+use Rattle.report.proofs.answers.answer_number.Tie as tie
 
 enum-told : tie.Need-enum-told
 enum-told c = search needs

@@ -1,8 +1,8 @@
--- `report::field::named` meets its contract.
+-- `report::answers::named` meets its contract.
 use borrow.Author.Needs.{needs}
 use Rattle.book.specs.Answers.{named}
-use Rattle.report.proofs.field.named.Statement.{statement}
-use Rattle.report.proofs.field.named.Tie as tie
+use Rattle.report.proofs.answers.named.Statement.{statement}
+use Rattle.report.proofs.answers.named.Tie as tie
 
 enum-told : tie.Need-enum-told
 enum-told c = search needs
