@@ -2,7 +2,6 @@ use crate::number;
 use book::state::Book;
 use book::state::Event;
 use book::state::Found;
-use report::field;
 use report::lines;
 use report::session;
 use rows::cut;
@@ -56,8 +55,7 @@ fn event_row(out: &mut [u8], at: usize, row: u64, book: Book, event: Event) -> R
 {
     let step = book::step(book, event);
     let answer = step.answer;
-    let number = field::answer_number(answer);
-    let next = lines::answer(out, at, row, field::named(answer), number);
+    let next = session::answered(out, at, row, answer);
     let after = step.book;
     Replay {
         book: after,

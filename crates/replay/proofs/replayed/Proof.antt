@@ -9,7 +9,7 @@ use Rattle.replay.proofs.replayed.Statement.{statement}
 use Rattle.replay.proofs.replayed.Tie as tie
 
 abbrev Inv-loop : tie.InvT-loop
-Inv-loop buf₀ out₀ at run₀ turns₀ buf out run turns = 
+Inv-loop buf₀ out₀ at run₀ turns₀ buf out run turns =
     (Good (run .replay .book)) × (run .replay .at ≤ 28608) × (run .have ≤ length buf) × (65536 ≤ length out) × (length buf ≡ length buf₀) × (length out ≡ length out₀)
 
 abbrev μ-loop : tie.MeasureT-loop
