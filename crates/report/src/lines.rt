@@ -23,8 +23,9 @@ pub fn header(out: &mut [u8], at: usize) -> usize
 fn begin(out: &mut [u8], at: usize, row: u64, kind: u8) -> usize
     requires { ⌜ at + 23 ≤ length (now out) ⌝ }
     ensures { λ r. ⌜ Put (now (out .entry)) at (text.heading row kind) (now (out .exit)) r ⌝ }
+    ensures { λ r. ⌜ r ≤ at + 23 ⌝ }
 {
-    let comma = put::digits(out, at, row);
+    let comma = field::number(out, at, row);
     let letter = put::byte(out, comma, b',');
     let next = put::byte(out, letter, kind);
     put::byte(out, next, b',')
@@ -34,9 +35,10 @@ fn begin(out: &mut [u8], at: usize, row: u64, kind: u8) -> usize
 fn account(out: &mut [u8], at: usize, a: u8) -> usize
     requires { ⌜ at + 5 ≤ length (now out) ⌝ }
     ensures { λ r. ⌜ Put (now (out .entry)) at (44 ∷ (decimal a ++ 44 ∷ [])) (now (out .exit)) r ⌝ }
+    ensures { λ r. ⌜ r ≤ at + 5 ⌝ }
 {
     let digits = put::byte(out, at, b',');
-    let comma = put::digits(out, digits, a as u64);
+    let comma = field::index(out, digits, a);
     put::byte(out, comma, b',')
 }
 
@@ -48,7 +50,7 @@ fn end(out: &mut [u8], at: usize) -> usize
     put::bytes(out, at, b"\r\n")
 }
 
-// The number of the answer, with the series that it names.
+// The number of an answer, with the series that it names.
 pub fn answer(out: &mut [u8], at: usize, row: u64, found: Found, number: u64) -> usize
     requires { ⌜ at + 64 ≤ length (now out) ⌝ }
     ensures { λ r. ⌜ Put (now (out .entry)) at (rule.answerLine row found number) (now (out .exit)) r ⌝ }
@@ -57,7 +59,7 @@ pub fn answer(out: &mut [u8], at: usize, row: u64, found: Found, number: u64) ->
     let series = begin(out, at, row, b'A');
     let commas = field::series(out, series, found);
     let digits = put::bytes(out, commas, b",,");
-    let next = put::digits(out, digits, number);
+    let next = field::number(out, digits, number);
     end(out, next)
 }
 
@@ -86,7 +88,7 @@ pub fn futures(out: &mut [u8], at: usize, row: u64, i: u8, a: u8, arisen: i64) -
         return at;
     }
     let series = begin(out, at, row, b'F');
-    let comma = put::digits(out, series, i as u64);
+    let comma = field::index(out, series, i);
     let count = account(out, comma, a);
     let next = field::count(out, count, arisen);
     end(out, next)

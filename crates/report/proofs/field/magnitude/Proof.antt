@@ -4,10 +4,10 @@ use mathlib.Core.Bool.{true}
 use Prim.Native.Nat.{ℕ, _+_, _^_}
 use native.Mathlib.Nat.{le-of-lt}
 use native.Mathlib.Omega.{arith}
-use lib.IntN.{pos, _+ℤ_, _-ℤ_}
+use lib.IntN.{pos, natAbs, _+ℤ_, _-ℤ_}
 use lib.Signed.{mag, ltZ}
 use mir.Syntax.{w64}
-use borrow.Author.Needs.{needs}
+use Rattle.integer.specs.Absolute.{abs-sfits}
 use Rattle.integer.specs.Bounds.{within-pos}
 use Rattle.integer.specs.Machine.{Reads, any, lit, plus, minus, local, less, fits, unsigned-asks, unsigned-gives}
 use Rattle.report.proofs.Magnitude.{one-up-within, turned, one-more, not-below}
@@ -44,7 +44,9 @@ add-result-2 : tie.Need-add-result-2
 add-result-2 c = record { fits = omega (arith, unsigned-gives (around c) refl, c .before .fits .x .sfits) }
 
 returns : tie.Need-returns
-returns c = ap (λ (n : ℕ). n + 1) (unsigned-gives (around c) refl) ∙ one-more (c .before .args .x) (below c)
+returns c =
+    let e = ap (λ (n : ℕ). n + 1) (unsigned-gives (around c) refl) ∙ one-more (c .before .args .x) (below c) in
+    (e, omega (arith, e, abs-sfits (c .before .args .x) (c .before .fits .x)))
 
 cast-result-2 : tie.Need-cast-result-2
 cast-result-2 c =
@@ -52,7 +54,9 @@ cast-result-2 c =
     unsigned-asks g (not-below (c .before .args .x) (less g (lit (pos 0)) (c .if1 .left)))
 
 returns-2 : tie.Need-returns-2
-returns-2 c = search needs
+returns-2 c =
+    let e = ap natAbs (any w64 (c .before .fits .x) .is) in
+    (e, omega (arith, e, abs-sfits (c .before .args .x) (c .before .fits .x)))
 
 pub magnitude-spec : {M : Type 1} → statement M
 magnitude-spec =

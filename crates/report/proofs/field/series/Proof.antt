@@ -2,18 +2,15 @@
 use native.Mathlib.Omega.{arith}
 use borrow.Author.Needs.{needs}
 use Rattle.report.specs.Lines.{seriesText}
-use Rattle.report.proofs.Fields.{nothing, byte-length}
+use Rattle.report.proofs.Fields.{nothing}
 use Rattle.report.proofs.field.series.Statement.{statement}
 use Rattle.report.proofs.field.series.Tie as tie
 
 enum-known-found : tie.Need-enum-known-found
 enum-known-found c = search needs
 
-cast-digits : tie.Need-cast-digits
-cast-digits c = search needs
-
-digits-requires : tie.Need-digits-requires
-digits-requires c κs = omega (arith, byte-length (c .before .before .found .given .0 .0) (search needs))
+index-requires : tie.Need-index-requires
+index-requires c κs = search needs
 
 enum-told : tie.Need-enum-told
 enum-told c = search needs
@@ -24,8 +21,9 @@ same-length c = search needs
 returns : tie.Need-returns
 unfolding seriesText
 returns c =
-    let found = c .before .before .before .before .before in
-    (rw (found .found .given .1) (c .before .before .digits .ensures), omega (arith, byte-length (found .found .given .0 .0) (search needs)))
+    let call = c .before .before in
+    let found = call .before .before .before in
+    (rw (found .found .given .1) (call .index .ensures .0), call .index .ensures .1)
 
 returns-2 : tie.Need-returns-2
 unfolding seriesText
@@ -33,5 +31,4 @@ returns-2 c = (rw (c .enum-told .given .1) (nothing _ _), omega arith)
 
 pub series-spec : {M : Type 1} → statement M
 series-spec =
-    tie.close
-    (tie.spec enum-known-found cast-digits digits-requires enum-told same-length returns returns-2)
+    tie.close (tie.spec enum-known-found index-requires enum-told same-length returns returns-2)

@@ -1,5 +1,8 @@
 -- `report::session::answered` meets its contract.
 use borrow.Author.Needs.{needs}
+use Rattle.book.specs.declared.state.Found.{Found}
+use Rattle.report.specs.Report.{answerLine}
+use Rattle.report.proofs.Fields.{text-of}
 use Rattle.report.proofs.session.answered.Statement.{statement}
 use Rattle.report.proofs.session.answered.Tie as tie
 
@@ -19,7 +22,10 @@ returns : tie.Need-returns
 returns c =
     let call = c .before .before in
     let number = call .before .before in
-    rw (number .before .named .ensures, number .answer-number .ensures) at (call .answer .ensures)
+    let row = number .before .before .before .args .row in (
+      text-of (answerLine row _) (number .answer-number .ensures) (text-of (λ (f : Found). answerLine row f (number .answer-number .result)) (number .before .named .ensures) (call .answer .ensures .0)),
+      call .answer .ensures .1,
+    )
 
 pub answered-spec : {M : Type 1} → statement M
 answered-spec =

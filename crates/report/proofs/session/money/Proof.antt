@@ -12,6 +12,7 @@ use Rattle.decimal.specs.Put.{Put}
 use Rattle.integer.specs.Sum.{at}
 use Rattle.report.specs.Report.{moneyLine}
 use Rattle.report.specs.Lines.{joined}
+use Rattle.report.proofs.Fields.{text-of}
 use Rattle.report.proofs.Joined.{joined-put, joined-next, element-fits}
 use Rattle.report.proofs.session.money.Statement.{statement}
 use Rattle.report.proofs.session.money.Tie as tie
@@ -53,7 +54,7 @@ loop-again c =
     let start = c .before .before .before .before .before .before .before .before in
     let loop = c .before .before .before .before .before .before in
     let a = loop .loop .a in
-    let put = rw (toZ-ofZ (amount-fits start a)) at (c .before .before .money .ensures .0) in
+    let put = text-of (moneyLine (start .args .row) a) (toZ-ofZ (amount-fits start a)) (c .before .before .money .ensures .0) in
     (omega arith, search needs, omega (arith, c .before .before .money .ensures .1), joined-next a _ (loop .loop .inv .3) put)
 
 same-length : tie.Need-same-length Inv-loop μ-loop

@@ -11,6 +11,7 @@ use Rattle.integer.specs.Sum.{at}
 use Rattle.integer.specs.Machine.{Reads, any, minus, local, fits}
 use Rattle.report.specs.Report.{arisen, futuresLine, seriesLines}
 use Rattle.report.specs.Lines.{joined}
+use Rattle.report.proofs.Fields.{text-of}
 use Rattle.report.proofs.Joined.{joined-put, joined-next, element-fits}
 use Rattle.report.proofs.session.series_futures.Statement.{statement}
 use Rattle.report.proofs.session.series_futures.Tie as tie
@@ -74,7 +75,7 @@ loop-again c =
     let start = c .before .before .before .before .before .before .before .before .before in
     let loop = c .before .before .before .before .before .before .before in
     let a = loop .loop .a in
-    let put = rw (local w64 (difference start a) tt .is) at (c .before .before .futures .ensures .0) in
+    let put = text-of (futuresLine (start .args .row) (start .args .i) a) (local w64 (difference start a) tt .is) (c .before .before .futures .ensures .0) in
     (omega arith, search needs, omega (arith, c .before .before .futures .ensures .1), joined-next a _ (loop .loop .inv .3) put)
 
 same-length : tie.Need-same-length Inv-loop μ-loop
