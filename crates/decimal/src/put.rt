@@ -25,17 +25,19 @@ pub fn bytes(out: &mut [u8], at: usize, text: &[u8]) -> usize
     at + i
 }
 
-// The digits of a number: those of its tenth, and then the last.
+// The digits of a number: those of its hundredth, and then the last two.
 pub fn digits(out: &mut [u8], at: usize, n: u64) -> usize
     requires { ⌜ at + length (decimal n) ≤ length (now out) ⌝ }
     ensures { λ r. ⌜ Put (now (out .entry)) at (decimal n) (now (out .exit)) r ⌝ }
 {
-    let last = 48 + (n % 10) as u8;
-    if 10 <= n {
-        let next = digits(out, at, n / 10);
-        return byte(out, next, last);
+    if 100 <= n {
+        let next = digits(out, at, n / 100);
+        return two_digits(out, next, n % 100);
     }
-    byte(out, at, last)
+    if 10 <= n {
+        return two_digits(out, at, n);
+    }
+    byte(out, at, 48 + n as u8)
 }
 
 pub fn two_digits(out: &mut [u8], at: usize, v: u64) -> usize
