@@ -15,12 +15,13 @@ ghost use lib.IntN.{pos};
 ghost use Rattle.integer.specs.Bounds.{Within, Bounded};
 ghost use Rattle.integer.specs.Sum.{sumTo, at};
 ghost use Rattle.integer.specs.Table.{table};
-ghost use Rattle.exercise.specs.Places.{places, limit, amount};
+ghost use Rattle.terms.specs.Bounds.{maxPosition};
+ghost use Rattle.exercise.specs.Places.{places, amount};
 ghost use Rattle.exercise.specs.Evening as rule;
 
 // The position that remains once contracts of it were exercised or assigned.
 fn shrunk(position: i32, exercised: u32, assigned: u32) -> i32
-    requires { ⌜ (Within limit position) × (exercised ≤ limit) × (assigned ≤ limit) ⌝ }
+    requires { ⌜ (Within maxPosition position) × (exercised ≤ maxPosition) × (assigned ≤ maxPosition) ⌝ }
     ensures { λ r. ⌜ r ≡ rule.shrunk position exercised assigned ⌝ }
 {
     position - (exercised as i32) + (assigned as i32)
@@ -28,7 +29,7 @@ fn shrunk(position: i32, exercised: u32, assigned: u32) -> i32
 
 // The futures that arise from what a holder exercised and a writer was assigned.
 fn futures(option: OptionType, exercised: u32, assigned: u32) -> i32
-    requires { ⌜ (exercised ≤ limit) × (assigned ≤ limit) ⌝ }
+    requires { ⌜ (exercised ≤ maxPosition) × (assigned ≤ maxPosition) ⌝ }
     ensures { λ r. ⌜ r ≡ rule.futures option exercised assigned ⌝ }
 {
     match option {
@@ -44,7 +45,7 @@ fn settled(
     exercised: [u32; PLACES],
     assigned: [u32; PLACES],
 ) -> Outcome
-    requires { ⌜ (Bounded limit positions) × ((k : ℕ) → amount exercised k ≤ limit) × ((k : ℕ) → amount assigned k ≤ limit) ⌝ }
+    requires { ⌜ (Bounded maxPosition positions) × ((k : ℕ) → amount exercised k ≤ maxPosition) × ((k : ℕ) → amount assigned k ≤ maxPosition) ⌝ }
     ensures { λ r. ⌜ r ≡ record { positions = table places (λ k. rule.shrunk (at positions k) (amount exercised k) (amount assigned k)); futures = table places (λ k. rule.futures option (amount exercised k) (amount assigned k)) } ⌝ }
 {
     let mut remaining = [0i32; PLACES];
@@ -68,7 +69,7 @@ pub fn evening(
     requests: [u32; PLACES],
     declined: [bool; PLACES],
 ) -> Outcome
-    requires { ⌜ (Bounded limit positions) × (sumTo places (at positions) ≡ pos 0) ⌝ }
+    requires { ⌜ (Bounded maxPosition positions) × (sumTo places (at positions) ≡ pos 0) ⌝ }
     ensures { λ r. ⌜ r ≡ rule.outcome fixing positions requests declined ⌝ }
 {
     let exercised = holder::exercised_by_place(fixing, positions, requests, declined);

@@ -8,7 +8,8 @@ ghost use Rattle.integer.specs.Bounds.{Bounded};
 ghost use Rattle.integer.specs.NatSum.{sumℕ};
 ghost use Rattle.integer.specs.Sum.{at};
 ghost use Rattle.integer.specs.Table.{table};
-ghost use Rattle.exercise.specs.Places.{places, limit, amount};
+ghost use Rattle.terms.specs.Bounds.{maxPosition};
+ghost use Rattle.exercise.specs.Places.{places, amount};
 ghost use Rattle.exercise.specs.Exercise as rule;
 ghost use Rattle.exercise.specs.Assignment.{wholePart, remainder, assigned};
 
@@ -81,7 +82,7 @@ fn by_largest_remainders(exercised: u64, shorts: [u32; PLACES]) -> [u32; PLACES]
 
 // What each place is assigned of `exercised` contracts.
 pub fn assign(exercised: u64, positions: [i32; PLACES]) -> [u32; PLACES]
-    requires { ⌜ (Bounded limit positions) × (exercised ≤ sumℕ places (λ k. rule.short (at positions k))) ⌝ }
+    requires { ⌜ (Bounded maxPosition positions) × (exercised ≤ sumℕ places (λ k. rule.short (at positions k))) ⌝ }
     ensures { λ r. ⌜ r ≡ table places (assigned places exercised (λ k. rule.short (at positions k))) ⌝ }
 {
     if exercised == 0 {
