@@ -1,6 +1,6 @@
 // Digits and numbers in a slice of bytes.
 ghost use mathlib.Core.Path.{_≡_};
-ghost use Prim.Native.Nat.{_+_, _*_, _≤_, min};
+ghost use Prim.Native.Nat.{_+_, _*_, min};
 ghost use Rattle.decimal.specs.Read.{digitOf, numeralAt, twoDigitsAt, capped};
 ghost use lib.ListN.{getD};
 use crate::Numeral;

@@ -1,13 +1,12 @@
 -- What a session pays (01, "Intraday" and "Evening").
-use mathlib.Core.Path.{_≡_}
 use mathlib.Core.Logic.{_≢_}
 use mathlib.Core.List.{List}
 use Prim.Native.Nat.{ℕ, _≤_, _<_}
 use lib.Dec.{eqb}
-use lib.IntN.{ℤ, pos, _+ℤ_, _-ℤ_, _*ℤ_}
+use lib.IntN.{ℤ, pos, _-ℤ_, _*ℤ_}
 use lib.ListN.{getD}
 use Rattle.choice.specs.Choice.{choose}
-use Rattle.integer.specs.Sum.{sumTo, at}
+use Rattle.integer.specs.Sum.{sumTo}
 use Rattle.terms.specs.Bounds.{accounts, seriesRoom, maxOptionPrice, maxTickValue, maxQuantity}
 use Rattle.value.specs.Value.{valueOf}
 use Rattle.margin.specs.declared.trade.Trade.{Trade}

@@ -5,7 +5,6 @@ use terms::bounds::SERIES;
 ghost use mathlib.Core.Path.{_≡_};
 ghost use Prim.Native.Nat.{_≤_, _*_};
 ghost use lib.IntN.{pos};
-ghost use lib.ListN.{getD};
 ghost use Rattle.integer.specs.Table.{table};
 ghost use Rattle.terms.specs.Bounds.{accounts, blotterRoom, maxTickValue};
 ghost use Rattle.value.specs.Value.{valueOf};

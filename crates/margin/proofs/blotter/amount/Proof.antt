@@ -6,7 +6,6 @@ use mathlib.Core.Path.{ap, _∙_}
 use lib.IntN.{pos}
 use mir.Syntax.{w64}
 use Rattle.integer.specs.Machine.{nat}
-use Rattle.value.specs.Value.{valueOf}
 use Rattle.value.proofs.Bounds.{option-value-bound}
 use borrow.Author.Needs.{needs}
 use Rattle.margin.proofs.blotter.amount.Statement.{statement}

@@ -1,12 +1,12 @@
 -- `margin::traded` meets its contract: after k trades each place holds what those k cost its account.
 use borrow.Author.Needs.{needs}
 use mathlib.Core.Path.{_≡_, sym, _∙_}
-use Prim.Native.Nat.{ℕ, _+_, _-_, _*_, _≤_, _<_}
+use Prim.Native.Nat.{ℕ, _-_, _≤_}
 use native.Mathlib.Omega.{arith}
-use lib.IntN.{ℤ, pos, _+ℤ_, _-ℤ_}
+use lib.IntN.{pos}
 use lib.ListN.{getD, getD-replicate}
 use mir.Syntax.{w64}
-use Rattle.integer.specs.Bounds.{Within, Bounded, within-pos, bounded-at}
+use Rattle.integer.specs.Bounds.{Bounded, within-pos, bounded-at}
 use Rattle.integer.specs.Machine.{Reads, same, local, fits, more, fewer, moved-is}
 use Rattle.integer.specs.Sum.{at}
 use Rattle.integer.specs.Table.{Filled, filled-ext, filled-all}
