@@ -9,8 +9,6 @@ use Rattle.choice.specs.Choice.{choose}
 use Rattle.terms.specs.Bounds.{finalDay, seriesRoom, blotterRoom}
 use Rattle.terms.specs.declared.OptionType.{OptionType}
 use Rattle.terms.specs.declared.Category.{Category}
-use Rattle.series.specs.Verdicts.{tradeVerdict, exerciseVerdict, declineVerdict, markVerdict}
-use Rattle.series.specs.declared.state.Series.{Series}
 use Rattle.series.specs.declared.refusal.Verdict.{Verdict}
 use Rattle.series.specs.declared.refusal.Verdict.the-variants.{Allowed}
 use Rattle.series.proofs.Allowed.{refused-not-allowed, passed, both, ListAllowed, list-allowed, TradeAllowed, trade-allowed, RequestAllowed, exercise-allowed, DeclineAllowed, decline-allowed, MarkAllowed, mark-allowed}
@@ -29,16 +27,16 @@ pub record Open (b : Book) (v : Verdict) : Type 0 where
   pub day : b .day ≤ finalDay
   pub rest : v ≡ Allowed
 
-pub unfinished : (b : Book) (v : Verdict) → unlessFinished b v ≡ Allowed → Open b v
+pub unfinished : (b : Book) (v : Verdict) → unlessFinished (b .day) v ≡ Allowed → Open b v
 unfinished b v e = let p = passed _ _ _ e in record { day = ltb-false finalDay (b .day) (p .failed); rest = p .rest }
 
 -- and series i is listed
-pub record Known (b : Book) (i : ℕ) (v : Series → Verdict) : Type 0 where
+pub record Known (b : Book) (i : ℕ) (v : Verdict) : Type 0 where
   pub day : b .day ≤ finalDay
   pub listed : i < b .listed
-  pub rest : v (seriesAt b i) ≡ Allowed
+  pub rest : v ≡ Allowed
 
-pub known : (b : Book) (i : ℕ) (v : Series → Verdict) → onSeries b i v ≡ Allowed → Known b i v
+pub known : (b : Book) (i : ℕ) (v : Verdict) → onSeries (b .day) (b .listed) i v ≡ Allowed → Known b i v
 known b i v e =
     let o = unfinished b _ e in
     let p = passed _ _ _ (o .rest) in
@@ -102,12 +100,12 @@ pub record CanTrade (b : Book) (i x y q p : ℕ) : Type 0 where
 
 pub allowed-trade : (b : Book) (i x y q p : ℕ) → verdictOf b (event.Trade i x y q p) ≡ Allowed → CanTrade b i x y q p
 allowed-trade b i x y q p e =
-    let t = both _ _ e in
-    let k = known b i (λ s. tradeVerdict s (b .day) x y q p) (t .first) in
+    let k = known b i _ e in
+    let t = both _ _ (k .rest) in
     let r = passed _ _ _ (t .second) in record {
       day = k .day;
       listed = k .listed;
-      terms = trade-allowed (seriesAt b i) (b .day) x y q p (k .rest);
+      terms = trade-allowed (seriesAt b i) (b .day) x y q p (t .first);
       room = leb-false blotterRoom (b .trades) (r .failed);
     }
 
@@ -118,7 +116,7 @@ pub record CanExercise (b : Book) (i a q : ℕ) : Type 0 where
 
 pub allowed-exercise : (b : Book) (i a q : ℕ) → verdictOf b (event.Exercise i a q) ≡ Allowed → CanExercise b i a q
 allowed-exercise b i a q e =
-    let k = known b i (λ s. exerciseVerdict s (b .day) a q) e in
+    let k = known b i _ e in
     record { day = k .day; listed = k .listed; terms = exercise-allowed (seriesAt b i) (b .day) a q (k .rest) }
 
 pub record CanDecline (b : Book) (i a : ℕ) : Type 0 where
@@ -128,7 +126,7 @@ pub record CanDecline (b : Book) (i a : ℕ) : Type 0 where
 
 pub allowed-decline : (b : Book) (i a : ℕ) → verdictOf b (event.Decline i a) ≡ Allowed → CanDecline b i a
 allowed-decline b i a e =
-    let k = known b i (λ s. declineVerdict s (b .day) a) e in
+    let k = known b i _ e in
     record { day = k .day; listed = k .listed; terms = decline-allowed (seriesAt b i) (b .day) a (k .rest) }
 
 pub record CanMark (b : Book) (i p f w : ℕ) : Type 0 where
@@ -138,7 +136,7 @@ pub record CanMark (b : Book) (i p f w : ℕ) : Type 0 where
 
 pub allowed-mark : (b : Book) (i p f w : ℕ) → verdictOf b (event.Mark i p f w) ≡ Allowed → CanMark b i p f w
 allowed-mark b i p f w e =
-    let k = known b i (λ s. markVerdict s (b .day) p f w) e in
+    let k = known b i _ e in
     record { day = k .day; listed = k .listed; terms = mark-allowed (seriesAt b i) (b .day) p f w (k .rest) }
 
 pub record CanIntraday (b : Book) : Type 0 where

@@ -5,6 +5,7 @@ pub mod Trades
 pub mod Outcome
 pub mod LiveSeries
 pub mod Allowed
+pub mod Effects
 pub mod Money
 pub mod KeepsEmpty
 pub mod KeepsEvents

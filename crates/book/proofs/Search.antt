@@ -1,7 +1,7 @@
 -- The search for the lowest live series without a mark, a step at a time; and what it finds.
 use Prim.Native.Nat.{ℕ, suc, _+_, _-_, _<_, _≤_}
 use mathlib.Core.Path.{_≡_, _∙_}
-use mathlib.Core.Bool.{Bool, true, false, not}
+use mathlib.Core.Bool.{true, false, not}
 use native.Mathlib.Numerals.{add-one}
 use native.Mathlib.Omega.{arith}
 use borrow.Author.Tests.{lt-ltb, le-ltb}
@@ -9,7 +9,6 @@ use Rattle.choice.specs.Choice.{choose}
 use Rattle.book.specs.State.{seriesAt}
 use Rattle.book.specs.Verdicts.{firstFrom, lacksMark}
 use Rattle.book.specs.declared.state.Book.{Book}
-use Rattle.book.specs.declared.state.Found.{Found}
 use Rattle.book.specs.declared.state.Found.the-variants.{At, Nothing}
 
 module _ (b : Book) (i : ℕ) (h : i < b .listed) where

@@ -3,20 +3,19 @@ use mathlib.Core.Path.{_≡_, refl, sym, ap, _∙_}
 use mathlib.Core.Logic.{_≢_}
 use mathlib.Core.Bool.{Bool, true, false, not}
 use mathlib.Core.List.{List}
-use Prim.Native.Nat.{ℕ, zero, suc, _<_, _≤_}
+use Prim.Native.Nat.{ℕ, _<_, _≤_}
 use native.Mathlib.Decide.{decLt}
 use native.Mathlib.Omega.{arith}
 use lib.Dec.{eqb}
-use lib.IntN.{ℤ, pos, _+ℤ_, _-ℤ_}
+use lib.IntN.{ℤ, pos, _-ℤ_}
 use lib.ListN.{getD, length, List·getD-eq-default}
-use borrow.Author.Tests.{eq-eqb, ne-eqb, lt-ltb, le-ltb}
+use borrow.Author.Tests.{eq-eqb, ne-eqb, le-ltb}
 use Rattle.choice.specs.Choice.{choose}
 use Rattle.integer.specs.Ring.{_⊖_, split, ring, ⊖-eq}
-use Rattle.integer.specs.Sum.{sumTo, sumTo-suc, sum-ext, sum-swap, sum-sub, sum-0, sum-change}
+use Rattle.integer.specs.Sum.{sumTo, sum-ext, sum-swap, sum-sub, sum-0, sum-change}
 use Rattle.integer.specs.Table.{table, getD-table, length-table}
-use Rattle.margin.specs.Margin.{cost, costIn, tradeOf, tradedValue, TradeWithin, TradesWithin, CoefficientsWithin}
+use Rattle.margin.specs.Margin.{cost, costIn, tradedValue, TradeWithin, TradesWithin, CoefficientsWithin}
 use Rattle.margin.specs.declared.trade.Trade.{Trade}
-use Rattle.series.specs.Series.{positionOf}
 use Rattle.terms.specs.Bounds.{seriesRoom, maxTickValue}
 use Rattle.book.specs.Good.{Good, GoodTrade}
 use Rattle.book.specs.Sessions.{overLive, tradedIn, marginIn, revaluedIn}

@@ -10,6 +10,7 @@ use Rattle.series.specs.Refusals.{number}
 use Rattle.series.specs.Series.{noMark}
 use Rattle.series.specs.Verdicts.{passesLimit, tradeVerdict}
 use Rattle.series.specs.declared.refusal.Refusal.the-variants.{Size, PositionLimit}
+use Rattle.series.specs.declared.refusal.Verdict.{Verdict}
 use Rattle.series.specs.declared.refusal.Verdict.the-variants.{Allowed, Refused}
 use Rattle.series.specs.declared.state.Series.{Series}
 use Rattle.terms.specs.declared.Category.the-variants.{American}
@@ -31,6 +32,10 @@ outstanding n =
       futures = [];
     }
 
+-- a trade's verdict in a series
+abbrev pub tradeIn : Series → ℕ → ℕ → ℕ → ℕ → ℕ → Verdict
+tradeIn s day x y q p = tradeVerdict (s .listing) (s .positions) day x y q p
+
 pub record ValuesAndSplits : Type 0 where
   -- (W, R) to c
   pub coefficient-100000-100 : coefficientOf 100000 100 ≡ 100000
@@ -49,14 +54,14 @@ pub record ValuesAndSplits : Type 0 where
   pub split-3 : first-three 3 (2 ∷ 2 ∷ 2 ∷ []) ≡ 1 ∷ 1 ∷ 1 ∷ []
   pub split-2 : first-three 2 (1 ∷ 1 ∷ 1 ∷ []) ≡ 1 ∷ 1 ∷ 0 ∷ []
   -- a trade's quantity: 1,000 is taken, 1,001 refused 6
-  pub quantity-1000 : tradeVerdict (outstanding 0) 0 2 3 1000 15000 ≡ Allowed
-  pub quantity-1001 : tradeVerdict (outstanding 0) 0 2 3 1001 15000 ≡ Refused Size
+  pub quantity-1000 : tradeIn (outstanding 0) 0 2 3 1000 15000 ≡ Allowed
+  pub quantity-1001 : tradeIn (outstanding 0) 0 2 3 1001 15000 ≡ Refused Size
   pub size-is-6 : number Size ≡ 6
   -- account 0 buys, and account 1 sells, to a position of 100,000, which stands, and of 100,001, which is 8
-  pub bought-100000 : tradeVerdict (outstanding 99000) 0 0 2 1000 15000 ≡ Allowed
-  pub bought-100001 : tradeVerdict (outstanding 99001) 0 0 2 1000 15000 ≡ Refused PositionLimit
-  pub sold-100000 : tradeVerdict (outstanding 99000) 0 2 1 1000 15000 ≡ Allowed
-  pub sold-100001 : tradeVerdict (outstanding 99001) 0 2 1 1000 15000 ≡ Refused PositionLimit
+  pub bought-100000 : tradeIn (outstanding 99000) 0 0 2 1000 15000 ≡ Allowed
+  pub bought-100001 : tradeIn (outstanding 99001) 0 0 2 1000 15000 ≡ Refused PositionLimit
+  pub sold-100000 : tradeIn (outstanding 99000) 0 2 1 1000 15000 ≡ Allowed
+  pub sold-100001 : tradeIn (outstanding 99001) 0 2 1 1000 15000 ≡ Refused PositionLimit
   pub position-limit-is-8 : number PositionLimit ≡ 8
 
 pub values-and-splits : ValuesAndSplits

@@ -3,6 +3,7 @@ pub mod Answers
 pub mod Verdicts
 pub mod Sessions
 pub mod Step
+pub mod Effects
 pub mod Good
 pub mod Reckoning
 pub mod Demand

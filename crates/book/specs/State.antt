@@ -1,13 +1,14 @@
 -- The book and its parts (01, "Units and bounds" and "Events").
 use mathlib.Core.Bool.{Bool, false, _&&_, not}
 use mathlib.Core.List.{List, []}
-use Prim.Native.Nat.{ℕ, _+_}
-use lib.Dec.{ltb, leb}
+use Prim.Native.Nat.{ℕ, _-_}
+use lib.Dec.{ltb}
 use lib.IntN.{ℤ, pos}
 use lib.ListN.{getD, set, replicate}
+use Rattle.choice.specs.Choice.{choose}
 use Rattle.integer.specs.Sum.{at}
 use Rattle.margin.specs.declared.trade.Trade.{Trade}
-use Rattle.terms.specs.Bounds.{accounts, seriesRoom, blotterRoom, finalDay}
+use Rattle.terms.specs.Bounds.{accounts, seriesRoom, blotterRoom}
 use Rattle.series.specs.Series.{newSeries, expired, placeOf, positionOf}
 use Rattle.series.specs.declared.state.Listing.{Listing}
 use Rattle.series.specs.declared.state.Series.{Series}
@@ -87,3 +88,7 @@ withSeries b i s =
       paid = b .paid;
       cash = b .cash;
     }
+
+-- where the day's next trade joins the blotter; its last record where it is full, and no trade joins
+unfoldable pub nextRecord : ℕ → ℕ
+nextRecord trades = choose (ltb trades blotterRoom) trades (blotterRoom - 1)

@@ -1,7 +1,7 @@
 -- What the book answers to an event (01, "Events" and "Refusals").
 use mathlib.Core.List as list
 use mathlib.Core.List.{[], _∷_}
-use Prim.Native.Nat.{ℕ, _+_}
+use Prim.Native.Nat.{_+_}
 use lib.ListN.{set}
 use Rattle.integer.specs.Table.{table}
 use Rattle.margin.specs.declared.trade.Trade as record-of

@@ -1,12 +1,14 @@
 -- Under which conditions an event is refused (01, "Refusals"), in the order of their numbers.
 use mathlib.Core.Bool.{Bool, _&&_, not}
+use mathlib.Core.List as list
 use Prim.Native.Nat.{ℕ, zero, suc}
 use lib.Dec.{ltb, leb}
+use lib.IntN.{ℤ}
 use Rattle.choice.specs.Choice.{choose}
 use Rattle.terms.specs.Bounds.{finalDay, seriesRoom, blotterRoom}
 use Rattle.series.specs.Refusals.{_then_}
 use Rattle.series.specs.Verdicts.{listVerdict, tradeVerdict, exerciseVerdict, declineVerdict, markVerdict}
-use Rattle.series.specs.declared.state.Series.{Series}
+use Rattle.series.specs.declared.state.Listing.{Listing}
 use Rattle.series.specs.declared.refusal.Refusal.the-variants.{Finished, UnknownSeries, BlotterFull, SeriesFull, SecondIntraday, NoMark}
 use Rattle.series.specs.declared.refusal.Verdict.{Verdict}
 use Rattle.series.specs.declared.refusal.Verdict.the-variants.{Allowed, Refused}
@@ -18,20 +20,48 @@ use Rattle.book.specs.declared.state.Found.{Found}
 use Rattle.book.specs.declared.state.Found.the-variants.{At, Nothing}
 
 -- 1, finished: day 999's evening is over; every event
-abbrev pub unlessFinished : Book → Verdict → Verdict
-unlessFinished b v = choose (ltb finalDay (b .day)) (Refused Finished) v
+abbrev pub unlessFinished : ℕ → Verdict → Verdict
+unlessFinished day v = choose (ltb finalDay day) (Refused Finished) v
 
--- 2, unknown series: number not listed; else by the series
-abbrev pub onSeries : Book → ℕ → (Series → Verdict) → Verdict
-onSeries b i v = unlessFinished b (choose (leb (b .listed) i) (Refused UnknownSeries) (v (seriesAt b i)))
+-- 2, unknown series: number not listed
+abbrev pub onSeries : ℕ → ℕ → ℕ → Verdict → Verdict
+onSeries day listed i v = unlessFinished day (choose (leb listed i) (Refused UnknownSeries) v)
 
 -- 9, blotter full: 256 trades stand today
-abbrev pub blotterVerdict : Book → Verdict
-blotterVerdict b = choose (leb blotterRoom (b .trades)) (Refused BlotterFull) Allowed
+abbrev pub blotterVerdict : ℕ → Verdict
+blotterVerdict trades = choose (leb blotterRoom trades) (Refused BlotterFull) Allowed
 
 -- 11, series full: 8 are listed
-abbrev pub roomVerdict : Book → Verdict
-roomVerdict b = choose (leb seriesRoom (b .listed)) (Refused SeriesFull) Allowed
+abbrev pub roomVerdict : ℕ → Verdict
+roomVerdict listed = choose (leb seriesRoom listed) (Refused SeriesFull) Allowed
+
+-- the series that an event is on; an event on none has a number that is never listed
+abbrev pub seriesOf : Event → ℕ
+seriesOf (List option category strike tick last) = seriesRoom
+seriesOf (Trade i x y q p) = i
+seriesOf (Exercise i a q) = i
+seriesOf (Decline i a) = i
+seriesOf (Mark i p f w) = i
+seriesOf Intraday = seriesRoom
+seriesOf Evening = seriesRoom
+
+-- an event on one series, with the day, how many trades stand, and the listing and the positions of its series: the conditions of the
+-- series, and of the blotter
+abbrev pub ownVerdict : ℕ → ℕ → Listing → list.List ℤ → Event → Verdict
+ownVerdict day trades l positions (Trade i x y q p) = tradeVerdict l positions day x y q p then blotterVerdict trades
+ownVerdict day trades l positions (Exercise i a q) = exerciseVerdict l positions day a q
+ownVerdict day trades l positions (Decline i a) = declineVerdict l day a
+ownVerdict day trades l positions (Mark i p f w) = markVerdict l day p f w
+ownVerdict day trades l positions (List option category strike tick last) = Refused UnknownSeries
+ownVerdict day trades l positions Intraday = Refused UnknownSeries
+ownVerdict day trades l positions Evening = Refused UnknownSeries
+
+-- and before them those of the whole book, of which n series are listed
+abbrev pub verdictIn : ℕ → ℕ → ℕ → Listing → list.List ℤ → Event → Verdict
+verdictIn day n trades l positions e = onSeries day n (seriesOf e) (ownVerdict day trades l positions e)
+
+abbrev pub verdictAt : Book → ℕ → Event → Verdict
+verdictAt b i e = verdictIn (b .day) (b .listed) (b .trades) (seriesAt b i .listing) (seriesAt b i .positions) e
 
 -- a live series lacks a mark
 abbrev pub lacksMark : Book → ℕ → Bool
@@ -51,10 +81,10 @@ needsMark (At i) = Refused (NoMark i)
 needsMark Nothing = Allowed
 
 abbrev pub verdictOf : Book → Event → Verdict
-verdictOf b (List option category strike tick last) = unlessFinished b (listVerdict (b .day) strike tick last then roomVerdict b)
-verdictOf b (Trade i x y q p) = onSeries b i (λ s. tradeVerdict s (b .day) x y q p) then blotterVerdict b
-verdictOf b (Exercise i a q) = onSeries b i (λ s. exerciseVerdict s (b .day) a q)
-verdictOf b (Decline i a) = onSeries b i (λ s. declineVerdict s (b .day) a)
-verdictOf b (Mark i p f w) = onSeries b i (λ s. markVerdict s (b .day) p f w)
-verdictOf b Intraday = unlessFinished b (choose (b .intraday) (Refused SecondIntraday) (needsMark (firstUnmarked b)))
-verdictOf b Evening = unlessFinished b (needsMark (firstUnmarked b))
+verdictOf b (List option category strike tick last) = unlessFinished (b .day) (listVerdict (b .day) strike tick last then roomVerdict (b .listed))
+verdictOf b (Trade i x y q p) = verdictAt b i (Trade i x y q p)
+verdictOf b (Exercise i a q) = verdictAt b i (Exercise i a q)
+verdictOf b (Decline i a) = verdictAt b i (Decline i a)
+verdictOf b (Mark i p f w) = verdictAt b i (Mark i p f w)
+verdictOf b Intraday = unlessFinished (b .day) (choose (b .intraday) (Refused SecondIntraday) (needsMark (firstUnmarked b)))
+verdictOf b Evening = unlessFinished (b .day) (needsMark (firstUnmarked b))

@@ -4,30 +4,31 @@ use crate::session::unmark_all;
 use crate::session::variation_margin;
 use crate::state::Answer;
 use crate::state::Book;
+use crate::state::Event;
 use crate::state::Found;
 use crate::state::Step;
 use margin::amounts::less;
 use margin::amounts::pay;
-use margin::trade::Trade;
 use series::change;
 use series::refusal::Refusal;
 use series::refusal::Verdict;
 use series::state::Listing;
-use series::verdict::decline_verdict;
-use series::verdict::exercise_verdict;
 use series::verdict::list_verdict;
-use series::verdict::mark_verdict;
-use series::verdict::trade_verdict;
 use terms::Category;
 use terms::OptionType;
 use terms::bounds::ACCOUNTS;
-use terms::bounds::BLOTTER;
 use terms::bounds::FINAL_DAY;
 use terms::bounds::SERIES;
 ghost use mathlib.Core.Path.{_≡_};
+ghost use Prim.Native.Nat.{_≤_};
+ghost use lib.Dec.{ltb};
+ghost use Rattle.choice.specs.Choice.{choose};
+ghost use Rattle.terms.specs.Bounds.{finalDay, seriesRoom};
+ghost use Rattle.series.specs.declared.refusal.Refusal.the-variants.{Finished, UnknownSeries};
 ghost use Rattle.book.specs.Good.{Good};
 ghost use Rattle.book.specs.Step as rule;
-ghost use Rattle.book.specs.declared.state.Event.{Event};
+ghost use Rattle.book.specs.Verdicts.{seriesOf};
+ghost use Rattle.book.specs.declared.state.Event as happening;
 
 // A refused event leaves the book as it stood and pays nobody.
 fn refused(book: Book, why: Refusal) -> Step
@@ -40,18 +41,7 @@ fn refused(book: Book, why: Refusal) -> Step
     }
 }
 
-// Carried out, with no money.
-fn done(book: Book) -> Step
-    ensures { λ r. ⌜ r ≡ rule.done book ⌝ }
-{
-    Step {
-        answer: Answer::Done,
-        money: [0i64; ACCOUNTS],
-        book: book,
-    }
-}
-
-pub fn list(
+fn list(
     mut book: Book,
     option: OptionType,
     category: Category,
@@ -60,7 +50,7 @@ pub fn list(
     last: u64,
 ) -> Step
     requires { ⌜ Good book ⌝ }
-    ensures { λ r. ⌜ r ≡ rule.stepOf book (Event.List option category strike tick last) ⌝ }
+    ensures { λ r. ⌜ r ≡ rule.stepOf book (happening.Event.List option category strike tick last) ⌝ }
 {
     if FINAL_DAY < book.day {
         return refused(book, Refusal::Finished);
@@ -89,103 +79,10 @@ pub fn list(
     }
 }
 
-pub fn trade(mut book: Book, series: u8, buyer: u8, seller: u8, quantity: u64, price: u64) -> Step
-    requires { ⌜ Good book ⌝ }
-    ensures { λ r. ⌜ r ≡ rule.stepOf book (Event.Trade series buyer seller quantity price) ⌝ }
-{
-    if FINAL_DAY < book.day {
-        return refused(book, Refusal::Finished);
-    }
-    let i = series as usize;
-    if book.listed <= i {
-        return refused(book, Refusal::UnknownSeries);
-    }
-    let s = book.series[i];
-    if let Verdict::Refused(why) = trade_verdict(s, book.day, buyer, seller, quantity, price) {
-        return refused(book, why);
-    }
-    let n = book.trades;
-    if BLOTTER <= n {
-        return refused(book, Refusal::BlotterFull);
-    }
-    let t = Trade {
-        series: series,
-        buyer: buyer,
-        seller: seller,
-        quantity: quantity as u16,
-        price: price as u32,
-    };
-    let moved = change::trade(s, buyer, seller, quantity as u16);
-    book.series[i] = moved;
-    book.blotter[n] = t;
-    book.trades = n + 1;
-    done(book)
-}
-
-pub fn exercise(mut book: Book, series: u8, account: u8, quantity: u64) -> Step
-    requires { ⌜ Good book ⌝ }
-    ensures { λ r. ⌜ r ≡ rule.stepOf book (Event.Exercise series account quantity) ⌝ }
-{
-    if FINAL_DAY < book.day {
-        return refused(book, Refusal::Finished);
-    }
-    let i = series as usize;
-    if book.listed <= i {
-        return refused(book, Refusal::UnknownSeries);
-    }
-    let s = book.series[i];
-    if let Verdict::Refused(why) = exercise_verdict(s, book.day, account, quantity) {
-        return refused(book, why);
-    }
-    let asked = change::request(s, account, quantity as u32);
-    book.series[i] = asked;
-    done(book)
-}
-
-pub fn decline(mut book: Book, series: u8, account: u8) -> Step
-    requires { ⌜ Good book ⌝ }
-    ensures { λ r. ⌜ r ≡ rule.stepOf book (Event.Decline series account) ⌝ }
-{
-    if FINAL_DAY < book.day {
-        return refused(book, Refusal::Finished);
-    }
-    let i = series as usize;
-    if book.listed <= i {
-        return refused(book, Refusal::UnknownSeries);
-    }
-    let s = book.series[i];
-    if let Verdict::Refused(why) = decline_verdict(s, book.day, account) {
-        return refused(book, why);
-    }
-    let declined = change::decline(s, account);
-    book.series[i] = declined;
-    done(book)
-}
-
-pub fn mark(mut book: Book, series: u8, option: u64, future: u64, tick_value: u64) -> Step
-    requires { ⌜ Good book ⌝ }
-    ensures { λ r. ⌜ r ≡ rule.stepOf book (Event.Mark series option future «tick_value») ⌝ }
-{
-    if FINAL_DAY < book.day {
-        return refused(book, Refusal::Finished);
-    }
-    let i = series as usize;
-    if book.listed <= i {
-        return refused(book, Refusal::UnknownSeries);
-    }
-    let s = book.series[i];
-    if let Verdict::Refused(why) = mark_verdict(s, book.day, option, future, tick_value) {
-        return refused(book, why);
-    }
-    let marked = change::mark(s, option as u32, future as u32, tick_value as u32);
-    book.series[i] = marked;
-    done(book)
-}
-
 // Each account receives the variation margin so far, and the marks are dropped.
-pub fn intraday(mut book: Book) -> Step
+fn intraday(mut book: Book) -> Step
     requires { ⌜ Good book ⌝ }
-    ensures { λ r. ⌜ r ≡ rule.stepOf book Event.Intraday ⌝ }
+    ensures { λ r. ⌜ r ≡ rule.stepOf book happening.Event.Intraday ⌝ }
 {
     if FINAL_DAY < book.day {
         return refused(book, Refusal::Finished);
@@ -212,9 +109,9 @@ pub fn intraday(mut book: Book) -> Step
 }
 
 // First exercise, then money, then expiry: each account receives the day's variation margin less what the intraday session paid.
-pub fn evening(mut book: Book) -> Step
+fn evening(mut book: Book) -> Step
     requires { ⌜ Good book ⌝ }
-    ensures { λ r. ⌜ r ≡ rule.stepOf book Event.Evening ⌝ }
+    ensures { λ r. ⌜ r ≡ rule.stepOf book happening.Event.Evening ⌝ }
 {
     if FINAL_DAY < book.day {
         return refused(book, Refusal::Finished);
@@ -238,5 +135,37 @@ pub fn evening(mut book: Book) -> Step
         answer: Answer::Done,
         money: money,
         book: book,
+    }
+}
+
+// An event on a series whose number is past every series.
+fn no_such_series(book: Book) -> Step
+    ensures { λ r. ⌜ r ≡ rule.refused book (choose (ltb finalDay (book .day)) Finished UnknownSeries) ⌝ }
+{
+    if FINAL_DAY < book.day {
+        return refused(book, Refusal::Finished);
+    }
+    refused(book, Refusal::UnknownSeries)
+}
+
+// An event on the whole book, or on a series whose number is past every series.
+pub fn whole(book: Book, event: Event) -> Step
+    requires { ⌜ (Good book) × (seriesRoom ≤ seriesOf event) ⌝ }
+    ensures { λ r. ⌜ r ≡ rule.stepOf book event ⌝ }
+{
+    match event {
+        Event::List {
+            option,
+            category,
+            strike,
+            tick,
+            last,
+        } => list(book, option, category, strike, tick, last),
+        Event::Trade { .. } => no_such_series(book),
+        Event::Exercise { .. } => no_such_series(book),
+        Event::Decline { .. } => no_such_series(book),
+        Event::Mark { .. } => no_such_series(book),
+        Event::Intraday => intraday(book),
+        Event::Evening => evening(book),
     }
 }

@@ -1,4 +1,6 @@
 // The clearing book: every event is carried out or refused, with the money of all accounts beside the answer.
+pub mod apply;
+pub mod effect;
 mod event;
 mod session;
 pub mod state;
@@ -49,39 +51,41 @@ pub fn empty() -> Book
         cash: [0i64; ACCOUNTS],
     }
 }
-// What the book answers to an event.
-pub fn step(book: Book, event: Event) -> Step
+
+// What the book answers to an event. An event on one series is made in place; `event::whole` has the others.
+pub fn step(mut book: Book, event: Event) -> Step
     requires { ⌜ Good book ⌝ }
     ensures { λ r. ⌜ (r ≡ stepOf book event) × Good (r .book) ⌝ }
 {
-    match event {
-        Event::List {
-            option,
-            category,
-            strike,
-            tick,
-            last,
-        } => event::list(book, option, category, strike, tick, last),
-        Event::Trade {
-            series,
-            buyer,
-            seller,
-            quantity,
-            price,
-        } => event::trade(book, series, buyer, seller, quantity, price),
-        Event::Exercise {
-            series,
-            account,
-            quantity,
-        } => event::exercise(book, series, account, quantity),
-        Event::Decline { series, account } => event::decline(book, series, account),
-        Event::Mark {
-            series,
-            option,
-            future,
-            tick_value,
-        } => event::mark(book, series, option, future, tick_value),
-        Event::Intraday => event::intraday(book),
-        Event::Evening => event::evening(book),
+    let i = effect::series_of(event);
+    if SERIES <= i {
+        return event::whole(book, event);
+    }
+    let mut s = book.series[i];
+    let listing = s.listing;
+    let effect = effect::effect(
+        listing,
+        &s.positions,
+        book.day,
+        book.listed,
+        book.trades,
+        event,
+    );
+    apply::move_positions(&mut s.positions, effect);
+    apply::set_request(&mut s.requests, effect);
+    apply::set_refusal(&mut s.declined, effect);
+    let mark = s.mark;
+    let marked = apply::mark(mark, effect);
+    s.mark = marked;
+    book.series[i] = s;
+    let n = apply::next_record(book.trades);
+    let next = book.blotter[n];
+    let joined = apply::joined(next, effect);
+    book.blotter[n] = joined;
+    book.trades = apply::counted(book.trades, effect);
+    Step {
+        answer: apply::answer(effect),
+        money: [0i64; ACCOUNTS],
+        book: book,
     }
 }

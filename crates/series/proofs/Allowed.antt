@@ -1,5 +1,5 @@
 -- What an event that is allowed meets: the conditions under which it would have been refused all fail.
-use mathlib.Core.Path.{_≡_, refl, sym, _∙_}
+use mathlib.Core.Path.{_≡_, refl}
 use mathlib.Core.Logic.{_≢_}
 use mathlib.Core.Bool.{Bool, true, false}
 use Prim.Native.Nat.{ℕ, _%_, _≤_, _<_}
@@ -83,7 +83,7 @@ pub record TradeAllowed (s : Series) (day x y q p : ℕ) : Type 0 where
   pub buyer-limit : Within maxPosition (positionOf s x +ℤ pos q)
   pub seller-limit : Within maxPosition (positionOf s y -ℤ pos q)
 
-pub trade-allowed : (s : Series) (day x y q p : ℕ) → tradeVerdict s day x y q p ≡ Allowed → TradeAllowed s day x y q p
+pub trade-allowed : (s : Series) (day x y q p : ℕ) → tradeVerdict (s .listing) (s .positions) day x y q p ≡ Allowed → TradeAllowed s day x y q p
 trade-allowed s day x y q p e =
     let p1 = passed _ _ _ e in
     let p2 = passed _ _ _ (p1 .rest) in
@@ -112,7 +112,7 @@ pub record RequestAllowed (s : Series) (day a q : ℕ) : Type 0 where
   pub account : a < accounts
   pub held : q ≤ held (positionOf s a)
 
-pub exercise-allowed : (s : Series) (day a q : ℕ) → exerciseVerdict s day a q ≡ Allowed → RequestAllowed s day a q
+pub exercise-allowed : (s : Series) (day a q : ℕ) → exerciseVerdict (s .listing) (s .positions) day a q ≡ Allowed → RequestAllowed s day a q
 exercise-allowed s day a q e =
     let p1 = passed _ _ _ e in
     let p2 = passed _ _ _ (p1 .rest) in
@@ -127,7 +127,7 @@ pub record DeclineAllowed (s : Series) (day a : ℕ) : Type 0 where
   pub live : day ≤ s .listing .last
   pub account : a < accounts
 
-pub decline-allowed : (s : Series) (day a : ℕ) → declineVerdict s day a ≡ Allowed → DeclineAllowed s day a
+pub decline-allowed : (s : Series) (day a : ℕ) → declineVerdict (s .listing) day a ≡ Allowed → DeclineAllowed s day a
 decline-allowed s day a e =
     let p1 = passed _ _ _ e in
     let p2 = passed _ _ _ (p1 .rest) in record {
@@ -142,7 +142,7 @@ pub record MarkAllowed (s : Series) (day p f w : ℕ) : Type 0 where
   pub tick-value : w ≤ maxTickValue
   pub coefficient : coefficientOf w (s .listing .tick) ≤ maxTickValue
 
-pub mark-allowed : (s : Series) (day p f w : ℕ) → markVerdict s day p f w ≡ Allowed → MarkAllowed s day p f w
+pub mark-allowed : (s : Series) (day p f w : ℕ) → markVerdict (s .listing) day p f w ≡ Allowed → MarkAllowed s day p f w
 mark-allowed s day p f w e =
     let p1 = passed _ _ _ e in
     let p2 = passed _ _ _ (p1 .rest) in

@@ -1,5 +1,5 @@
 -- A series and its parts.
-use mathlib.Core.Bool.{Bool, true, false}
+use mathlib.Core.Bool.{Bool, false}
 use mathlib.Core.List.{List}
 use Prim.Native.Nat.{ℕ}
 use lib.Dec.{ltb, eqb}
@@ -34,8 +34,11 @@ newSeries l =
     }
 
 -- "expired": the series is past its last evening
+abbrev pub pastLast : Listing → ℕ → Bool
+pastLast l day = ltb (l .last) day
+
 abbrev pub expired : Series → ℕ → Bool
-expired s day = ltb (s .listing .last) day
+expired s day = pastLast (s .listing) day
 
 -- the day is the series' last
 abbrev pub lastDay : Series → ℕ → Bool
@@ -45,6 +48,9 @@ lastDay s day = eqb day (s .listing .last)
 abbrev pub placeOf : ℕ → ℕ
 placeOf account = account
 
--- an account's position
+-- an account's position, among positions and in a series
+abbrev pub positionIn : List ℤ → ℕ → ℤ
+positionIn positions account = at positions (placeOf account)
+
 abbrev pub positionOf : Series → ℕ → ℤ
-positionOf s account = at (s .positions) (placeOf account)
+positionOf s account = positionIn (s .positions) account

@@ -7,7 +7,7 @@ ghost use mathlib.Core.Path.{_≡_};
 ghost use mathlib.Core.Logic.{_≢_};
 ghost use Prim.Native.Nat.{_≤_, _<_};
 ghost use lib.IntN.{pos, _+ℤ_};
-ghost use lib.ListN.{replicate};
+ghost use lib.ListN.{replicate, set};
 ghost use Rattle.choice.specs.Choice.{choose};
 ghost use Rattle.exercise.specs.Places.{places};
 ghost use Rattle.integer.specs.Bounds.{Bounded};
@@ -16,7 +16,7 @@ ghost use Rattle.integer.specs.Table.{table};
 ghost use Rattle.terms.specs.Bounds.{accounts, maxPosition, maxQuantity, maxTickValue, finalDay};
 ghost use Rattle.value.specs.Value.{coefficientOf};
 ghost use Rattle.series.specs.Good.{GoodSeries};
-ghost use Rattle.series.specs.Series.{noMark, newSeries};
+ghost use Rattle.series.specs.Series.{noMark, newSeries, placeOf};
 ghost use Rattle.series.specs.Changes as rule;
 
 // No mark stands.
@@ -49,53 +49,46 @@ pub fn new_series(listing: Listing) -> Series
 }
 
 // The buyer's position rises, the seller's falls.
-pub fn trade(mut s: Series, buyer: u8, seller: u8, quantity: u16) -> Series
-    requires { ⌜ (buyer < accounts) × (seller < accounts) × (buyer ≢ seller) × (quantity ≤ maxQuantity) × (Bounded maxPosition (s .positions)) ⌝ }
-    ensures { λ r. ⌜ r ≡ rule.traded s buyer seller quantity ⌝ }
+pub fn trade(positions: &mut [i32; PLACES], buyer: u8, seller: u8, quantity: u16)
+    requires { ⌜ (buyer < accounts) × (seller < accounts) × (buyer ≢ seller) × (quantity ≤ maxQuantity) × (Bounded maxPosition (now positions)) ⌝ }
+    ensures { λ r. ⌜ now (positions .exit) ≡ rule.moved (now (positions .entry)) buyer seller quantity ⌝ }
 {
     let x = buyer as usize;
     let y = seller as usize;
     let q = quantity as i32;
-    s.positions[x] = s.positions[x] + q;
-    s.positions[y] = s.positions[y] - q;
-    s
+    positions[x] = positions[x] + q;
+    positions[y] = positions[y] - q;
 }
 
-// The account's request replaces the earlier one and lifts its refusal.
-pub fn request(mut s: Series, account: u8, quantity: u32) -> Series
+// The account's request replaces the earlier one.
+pub fn request(requests: &mut [u32; PLACES], account: u8, quantity: u32)
     requires { ⌜ account < accounts ⌝ }
-    ensures { λ r. ⌜ r ≡ rule.requested s account quantity ⌝ }
+    ensures { λ r. ⌜ now (requests .exit) ≡ set (now (requests .entry)) (placeOf account) quantity ⌝ }
 {
     let a = account as usize;
-    s.requests[a] = quantity;
-    s.declined[a] = false;
-    s
+    requests[a] = quantity;
 }
 
-// The account refuses; its request is 0.
-pub fn decline(mut s: Series, account: u8) -> Series
+// The account refuses exercise, or lifts its refusal.
+pub fn decline(declined: &mut [bool; PLACES], account: u8, refuses: bool)
     requires { ⌜ account < accounts ⌝ }
-    ensures { λ r. ⌜ r ≡ rule.declinedBy s account ⌝ }
+    ensures { λ r. ⌜ now (declined .exit) ≡ set (now (declined .entry)) (placeOf account) refuses ⌝ }
 {
     let a = account as usize;
-    s.requests[a] = 0;
-    s.declined[a] = true;
-    s
+    declined[a] = refuses;
 }
 
-// The mark replaces an earlier one.
-pub fn mark(mut s: Series, option: u32, future: u32, tick_value: u32) -> Series
-    requires { ⌜ coefficientOf «tick_value» (s .listing .tick) ≤ maxTickValue ⌝ }
-    ensures { λ r. ⌜ r ≡ rule.marked s option future «tick_value» ⌝ }
+// The mark of these prices and this tick value, for a series of this tick.
+pub fn mark(tick: u32, option: u32, future: u32, tick_value: u32) -> Mark
+    requires { ⌜ coefficientOf «tick_value» tick ≤ maxTickValue ⌝ }
+    ensures { λ r. ⌜ r ≡ rule.markOf tick option future «tick_value» ⌝ }
 {
-    let m = Mark {
+    Mark {
         made: true,
         option: option,
         future: future,
-        coefficient: value::coefficient(tick_value, s.listing.tick) as u32,
-    };
-    s.mark = m;
-    s
+        coefficient: value::coefficient(tick_value, tick) as u32,
+    }
 }
 
 // The mark is dropped.

@@ -1,7 +1,8 @@
 use crate::refusal::Refusal;
 use crate::refusal::Verdict;
-use crate::state::Series;
+use crate::state::Listing;
 use exercise::holder::held;
+use exercise::types::PLACES;
 use terms::Category;
 use terms::bounds::ACCOUNTS;
 use terms::bounds::FINAL_DAY;
@@ -55,17 +56,18 @@ fn passes_limit(position: i64) -> bool
 
 // May these accounts trade this quantity at this price?
 pub fn trade_verdict(
-    s: Series,
+    listing: Listing,
+    positions: &[i32; PLACES],
     day: u32,
     buyer: u8,
     seller: u8,
     quantity: u64,
     price: u64,
 ) -> Verdict
-    requires { ⌜ 0 < s .listing .tick ⌝ }
-    ensures { λ r. ⌜ r ≡ rule.tradeVerdict s day buyer seller quantity price ⌝ }
+    requires { ⌜ 0 < listing .tick ⌝ }
+    ensures { λ r. ⌜ r ≡ rule.tradeVerdict listing (now (positions .entry)) day buyer seller quantity price ⌝ }
 {
-    if s.listing.last < day {
+    if listing.last < day {
         return Verdict::Refused(Refusal::Expired);
     }
     let x = buyer as usize;
@@ -88,13 +90,13 @@ pub fn trade_verdict(
     if MAX_OPTION_PRICE < price {
         return Verdict::Refused(Refusal::Price);
     }
-    if 0 < price % s.listing.tick as u64 {
+    if 0 < price % listing.tick as u64 {
         return Verdict::Refused(Refusal::Price);
     }
-    if passes_limit(s.positions[x] as i64 + quantity as i64) {
+    if passes_limit(positions[x] as i64 + quantity as i64) {
         return Verdict::Refused(Refusal::PositionLimit);
     }
-    if passes_limit(s.positions[y] as i64 - quantity as i64) {
+    if passes_limit(positions[y] as i64 - quantity as i64) {
         return Verdict::Refused(Refusal::PositionLimit);
     }
     Verdict::Allowed
@@ -111,48 +113,59 @@ fn too_early(category: Category, day: u32, last: u32) -> bool
 }
 
 // May this account request the exercise of this quantity?
-pub fn exercise_verdict(s: Series, day: u32, account: u8, quantity: u64) -> Verdict
-    ensures { λ r. ⌜ r ≡ rule.exerciseVerdict s day account quantity ⌝ }
+pub fn exercise_verdict(
+    listing: Listing,
+    positions: &[i32; PLACES],
+    day: u32,
+    account: u8,
+    quantity: u64,
+) -> Verdict
+    ensures { λ r. ⌜ r ≡ rule.exerciseVerdict listing (now (positions .entry)) day account quantity ⌝ }
 {
-    if s.listing.last < day {
+    if listing.last < day {
         return Verdict::Refused(Refusal::Expired);
     }
     let a = account as usize;
     if ACCOUNTS <= a {
         return Verdict::Refused(Refusal::UnknownAccount);
     }
-    let listing = s.listing;
     let category = listing.category;
     if too_early(category, day, listing.last) {
         return Verdict::Refused(Refusal::NotToday);
     }
-    if (held(s.positions[a]) as u64) < quantity {
+    if (held(positions[a]) as u64) < quantity {
         return Verdict::Refused(Refusal::NotHeld);
     }
     Verdict::Allowed
 }
 
 // May this account refuse exercise?
-pub fn decline_verdict(s: Series, day: u32, account: u8) -> Verdict
-    ensures { λ r. ⌜ r ≡ rule.declineVerdict s day account ⌝ }
+pub fn decline_verdict(listing: Listing, day: u32, account: u8) -> Verdict
+    ensures { λ r. ⌜ r ≡ rule.declineVerdict listing day account ⌝ }
 {
-    if s.listing.last < day {
+    if listing.last < day {
         return Verdict::Refused(Refusal::Expired);
     }
     if ACCOUNTS <= account as usize {
         return Verdict::Refused(Refusal::UnknownAccount);
     }
-    if day < s.listing.last {
+    if day < listing.last {
         return Verdict::Refused(Refusal::NotToday);
     }
     Verdict::Allowed
 }
 
 // May the series be marked with these prices and this tick value?
-pub fn mark_verdict(s: Series, day: u32, option: u64, future: u64, tick_value: u64) -> Verdict
-    ensures { λ r. ⌜ r ≡ rule.markVerdict s day option future «tick_value» ⌝ }
+pub fn mark_verdict(
+    listing: Listing,
+    day: u32,
+    option: u64,
+    future: u64,
+    tick_value: u64,
+) -> Verdict
+    ensures { λ r. ⌜ r ≡ rule.markVerdict listing day option future «tick_value» ⌝ }
 {
-    if s.listing.last < day {
+    if listing.last < day {
         return Verdict::Refused(Refusal::Expired);
     }
     if MAX_OPTION_PRICE < option {
@@ -167,7 +180,7 @@ pub fn mark_verdict(s: Series, day: u32, option: u64, future: u64, tick_value: u
     if MAX_TICK_VALUE < tick_value {
         return Verdict::Refused(Refusal::TickValue);
     }
-    let c = value::coefficient(tick_value as u32, s.listing.tick);
+    let c = value::coefficient(tick_value as u32, listing.tick);
     if c < 1 {
         return Verdict::Refused(Refusal::TickValue);
     }

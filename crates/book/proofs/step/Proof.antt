@@ -1,105 +1,137 @@
--- `book::step` meets its contract: each arm is its event, and every step keeps the book good.
-use mathlib.Core.Path.{_≡_, sym, ap, _∙_}
+-- `book::step` meets its contract: it is the event's step, and every step keeps the book good.
+use mathlib.Core.Path.{_≡_}
+use Prim.Native.Nat.{_<_}
+use native.Mathlib.Omega.{arith}
+use Rattle.terms.specs.Bounds.{blotterRoom}
+use Rattle.book.specs.Effects.{Fits}
 use Rattle.book.specs.Good.{Good}
 use Rattle.book.specs.Step.{stepOf}
-use Rattle.book.specs.declared.state.Event.{Event}
 use Rattle.book.specs.declared.state.Step.{Step}
+use Rattle.book.proofs.Effects.{next-record-within, effect-fits, step-stored}
 use Rattle.book.proofs.Keeps.{good-step}
 use borrow.Author.Needs.{needs}
 use Rattle.book.proofs.step.Statement.{statement}
 use Rattle.book.proofs.step.Tie as tie
 
--- what an arm gave is the step of the event that it matched
-stepped : (c : tie.Start) (e : Event) (r : Step) → r ≡ stepOf (c .args .book) e → c .args .event ≡ e → (r ≡ stepOf (c .args .book) (c .args .event)) × Good (r .book)
-stepped c e r p q =
-    let is : r ≡ stepOf (c .args .book) (c .args .event) = p ∙ ap (stepOf (c .args .book)) (sym q) in
-    (is, rw is (good-step (c .args .book) (c .pre) (c .args .event)))
+stepped : (c : tie.Start) {r : Step} → r ≡ stepOf (c .args .t1) (c .args .event) → (r ≡ stepOf (c .args .t1) (c .args .event)) × Good (r .book)
+stepped c is = (is, rw is (good-step (c .args .t1) (c .pre) (c .args .event)))
 
-enum-known-event : tie.Need-enum-known-event
-enum-known-event c = search needs
+-- where the effect is known
+abbrev start : tie.After-effect → tie.Start
+start f = f .before .before .before .before .before .before .before
 
-list-requires : tie.Need-list-requires
-list-requires c κs = search needs
+abbrev effected : tie.After-answer → tie.After-effect
+effected c = c .before .before .before .before .before .before .before .before .before .before .before .before .before
 
-enum-known-event-2 : tie.Need-enum-known-event-2
-enum-known-event-2 c = search needs
+fits : (f : tie.After-effect) → Fits (f .effect .result)
+fits f =
+    let s = start f in
+    effect-fits (s .args .t1) (s .args .event) _ (f .before .before .before .before .before .before .series-of .ensures) _ (f .effect .ensures)
 
-trade-requires : tie.Need-trade-requires
-trade-requires c κs = search needs
+record-of : (c : tie.After-next-record) → c .next-record .result < blotterRoom
+record-of c = next-record-within _ (c .next-record .ensures)
 
-enum-known-event-3 : tie.Need-enum-known-event-3
-enum-known-event-3 c = search needs
+series-of-requires : tie.Need-series-of-requires
+series-of-requires c κs = search needs
 
-exercise-requires : tie.Need-exercise-requires
-exercise-requires c κs = search needs
+whole-requires : tie.Need-whole-requires
+whole-requires c κs = search needs
 
-enum-known-event-4 : tie.Need-enum-known-event-4
-enum-known-event-4 c = search needs
+returns : tie.Need-returns
+returns c = stepped (c .before .before .before) (c .whole .ensures)
 
-decline-requires : tie.Need-decline-requires
-decline-requires c κs = search needs
+mul-s : tie.Need-mul-s
+mul-s c = search needs
 
-enum-known-event-5 : tie.Need-enum-known-event-5
-enum-known-event-5 c = search needs
+element-copy-out-s : tie.Need-element-copy-out-s
+element-copy-out-s c = search needs
+
+effect-requires : tie.Need-effect-requires
+effect-requires c κs =
+    let s = c .before .before .before .before .before .before in
+    let n = c .before .before .before .before .before .series-of in
+    let lt = c .before .before .before .before .if1 .left in
+    (s .pre .series (n .result) lt .positions .bounded, rw (← n .ensures) (s .pre .tick (n .result)))
+
+move-positions-requires : tie.Need-move-positions-requires
+move-positions-requires c κs = (fits (c .before), start (c .before) .pre .series (c .before .before .before .before .before .before .before .series-of .result) (c .before .before .before .before .before .before .if1 .left) .positions .bounded)
+
+set-request-requires : tie.Need-set-request-requires
+set-request-requires c κs = fits (c .before .before .before)
+
+set-refusal-requires : tie.Need-set-refusal-requires
+set-refusal-requires c κs = fits (c .before .before .before .before .before)
 
 mark-requires : tie.Need-mark-requires
 mark-requires c κs = search needs
 
-enum-told : tie.Need-enum-told
-enum-told c = search needs
+mul-t15 : tie.Need-mul-t15
+mul-t15 c = search needs
 
-intraday-requires : tie.Need-intraday-requires
-intraday-requires c κs = search needs
+element-set-from-book : tie.Need-element-set-from-book
+element-set-from-book c = search needs
 
-enum-told-2 : tie.Need-enum-told-2
-enum-told-2 c = search needs
+next-record-requires : tie.Need-next-record-requires
+next-record-requires c κs = search needs
 
-evening-requires : tie.Need-evening-requires
-evening-requires c κs = search needs
+mul-next : tie.Need-mul-next
+mul-next c = omega (arith, record-of c)
 
-returns : tie.Need-returns
-returns c = stepped (c .before .before .before .before) _ _ (c .list .ensures) (c .before .before .event .given .1)
+element-copy-out-next : tie.Need-element-copy-out-next
+element-copy-out-next c = record-of c
+
+joined-requires : tie.Need-joined-requires
+joined-requires c κs = search needs
+
+mul-joined : tie.Need-mul-joined
+mul-joined c = omega (arith, record-of (c .before .before))
+
+element-set-from-joined : tie.Need-element-set-from-joined
+element-set-from-joined c = record-of (c .before .before)
+
+counted-requires : tie.Need-counted-requires
+counted-requires c κs = search needs
+
+answer-requires : tie.Need-answer-requires
+answer-requires c κs = search needs
 
 returns-2 : tie.Need-returns-2
-returns-2 c = stepped (c .before .before .before .before) _ _ (c .trade .ensures) (c .before .before .event2 .given .1)
-
-returns-3 : tie.Need-returns-3
-returns-3 c = stepped (c .before .before .before .before) _ _ (c .exercise .ensures) (c .before .before .event3 .given .1)
-
-returns-4 : tie.Need-returns-4
-returns-4 c = stepped (c .before .before .before .before) _ _ (c .decline .ensures) (c .before .before .event4 .given .1)
-
-returns-5 : tie.Need-returns-5
-returns-5 c = stepped (c .before .before .before .before) _ _ (c .mark .ensures) (c .before .before .event5 .given .1)
-
-returns-6 : tie.Need-returns-6
-returns-6 c = stepped (c .before .before .before) _ _ (c .intraday .ensures) (c .before .enum-told .given .1)
-
-returns-7 : tie.Need-returns-7
-returns-7 c = stepped (c .before .before .before) _ _ (c .evening .ensures) (c .before .enum-told2 .given .1)
+returns-2 c =
+    let f = effected c in
+    let s = start f in
+    stepped s
+    (step-stored (s .args .t1) (s .args .event) _ (f .before .before .before .before .before .before .series-of .ensures) _ (f .effect .ensures)
+    _ (c .before .before .before .before .next-record .ensures) (f .before .before .before .before .before .if1 .left)
+    (c .answer .ensures)
+    (c .before .before .before .before .before .before .before .before .before .before .before .move-positions .ensures)
+    (c .before .before .before .before .before .before .before .before .before .set-request .ensures)
+    (c .before .before .before .before .before .before .before .set-refusal .ensures)
+    (c .before .before .before .before .before .mark2 .ensures)
+    (c .before .before .joined .ensures)
+    (c .before .counted .ensures))
 
 pub step-spec : {M : Type 1} → statement M
 step-spec =
     tie.close
     (tie.spec
-    enum-known-event
-    list-requires
-    enum-known-event-2
-    trade-requires
-    enum-known-event-3
-    exercise-requires
-    enum-known-event-4
-    decline-requires
-    enum-known-event-5
-    mark-requires
-    enum-told
-    intraday-requires
-    enum-told-2
-    evening-requires
+    series-of-requires
+    whole-requires
     returns
-    returns-2
-    returns-3
-    returns-4
-    returns-5
-    returns-6
-    returns-7)
+    mul-s
+    element-copy-out-s
+    effect-requires
+    move-positions-requires
+    set-request-requires
+    set-refusal-requires
+    mark-requires
+    mul-t15
+    element-set-from-book
+    next-record-requires
+    mul-next
+    element-copy-out-next
+    joined-requires
+    mul-joined
+    element-set-from-joined
+    counted-requires
+    answer-requires
+    returns-2)

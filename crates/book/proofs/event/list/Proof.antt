@@ -1,18 +1,14 @@
 -- `book::list` meets its contract: its tests are those of the verdict, in their order.
-use mathlib.Core.Path.{_≡_, sym, ap, _∙_}
+use mathlib.Core.Path.{sym, _∙_}
 use Prim.Native.Nat.{_+_}
 use native.Mathlib.Omega.{arith}
 use lib.ListN.{set}
 use Rattle.choice.specs.Choice.{hit, past, tests}
-use Rattle.series.specs.declared.state.Listing.{Listing}
-use Rattle.series.specs.declared.state.Series.{Series}
 use Rattle.series.proofs.Allowed.{ListAllowed, list-allowed}
 use Rattle.book.specs.State.{noMoney}
-use Rattle.book.specs.Step.{stepOf}
 use Rattle.book.specs.declared.state.Answer.the-variants.{Listed}
 use Rattle.book.specs.declared.state.Event.{Event}
 use Rattle.book.specs.declared.state.Event.the-variants.{List}
-use Rattle.book.specs.declared.state.Step.{Step}
 use Rattle.book.proofs.Outcome.{by-refusal, by-allowance, then-refused, then-allowed, verdict-is}
 use borrow.Author.Needs.{needs}
 use Rattle.book.proofs.event.list.Statement.{statement}

@@ -1,6 +1,6 @@
 -- `book::revaluation` meets its contract: after i series each place holds what its account gains in those i.
 use borrow.Author.Needs.{needs}
-use mathlib.Core.Path.{_≡_, refl, sym, ap, _∙_}
+use mathlib.Core.Path.{_≡_, sym, ap, _∙_}
 use mathlib.Core.Bool.{Bool, true, false, not}
 use mathlib.Core.List.{List}
 use Prim.Native.Nat.{ℕ, _+_, _-_, _≤_, _<_}
@@ -12,7 +12,6 @@ use Rattle.integer.specs.Bounds.{Bounded, bounded-at, within-le}
 use Rattle.integer.specs.Sum.{at}
 use Rattle.integer.specs.Table.{table, length-table, getD-table, table-ext, Filled, filled-ext, filled-all}
 use Rattle.series.specs.Series.{expired, positionOf}
-use Rattle.series.specs.declared.state.Series.{Series}
 use Rattle.terms.specs.Bounds.{accounts}
 use Rattle.book.specs.Sessions.{revaluedIn}
 use Rattle.book.specs.State.{noSeries, seriesAt}

@@ -1,6 +1,6 @@
 -- `book::settle_all` meets its contract: the first i series are as the session leaves them, the others as they were.
 use borrow.Author.Needs.{needs}
-use mathlib.Core.Path.{_≡_, _∙_}
+use mathlib.Core.Path.{_∙_}
 use Prim.Native.Nat.{ℕ, _-_, _≤_}
 use native.Mathlib.Omega.{arith}
 use Rattle.choice.specs.Choice.{choose}

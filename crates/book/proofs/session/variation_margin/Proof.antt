@@ -2,18 +2,17 @@
 use mathlib.Core.Path.{_≡_, sym, ap, _∙_}
 use mathlib.Core.List.{List}
 use Prim.Native.Nat.{ℕ}
-use native.Mathlib.Nat.{le-refl}
 use native.Mathlib.Omega.{arith}
-use lib.IntN.{ℤ, pos, _-ℤ_}
+use lib.IntN.{ℤ, pos}
 use lib.ListN.{getD}
-use Rattle.integer.specs.Bounds.{Bounded, bounded-table, within-le}
+use Rattle.integer.specs.Bounds.{bounded-table, within-le}
 use Rattle.integer.specs.Sum.{at}
 use Rattle.integer.specs.Table.{table, table-ext, getD-table}
 use Rattle.margin.specs.Margin.{tradedValue}
 use Rattle.margin.proofs.Cost.{traded-small}
 use Rattle.series.specs.Series.{positionOf}
 use Rattle.series.specs.declared.state.Series.{Series}
-use Rattle.terms.specs.Bounds.{accounts, seriesRoom}
+use Rattle.terms.specs.Bounds.{accounts}
 use Rattle.book.specs.Sessions.{overLive, revaluedIn}
 use Rattle.book.specs.State.{noSeries, seriesAt}
 use Rattle.book.specs.declared.state.Book.{Book}

@@ -1,5 +1,4 @@
 -- `series::closing` meets its contract.
-use borrow.Author.Needs.{needs}
 use mathlib.Core.Path.{refl}
 use Rattle.choice.specs.Choice.{hit, past}
 use Rattle.series.proofs.change.closing.Statement.{statement}

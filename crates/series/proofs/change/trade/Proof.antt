@@ -1,5 +1,4 @@
 -- `series::trade` meets its contract: the two stores are a move of the quantity.
-use native.Mathlib.Omega.{arith}
 use lib.IntN.{pos}
 use mir.Syntax.{w32}
 use Rattle.integer.specs.Machine.{Reads, nat, fits, more, fewer, moved-is}
@@ -14,68 +13,58 @@ module _ (c : tie.Start) where
 cast-q : tie.Need-cast-q
 cast-q c = search needs
 
-mul-s : tie.Need-mul-s
-mul-s c = search needs
+mul-positions : tie.Need-mul-positions
+mul-positions c = search needs
 
-element-copy-out-s : tie.Need-element-copy-out-s
-element-copy-out-s c = search needs
+element-copy-out-positions : tie.Need-element-copy-out-positions
+element-copy-out-positions c = search needs
 
-add-s : tie.Need-add-s
-add-s c =
+add-positions : tie.Need-add-positions
+add-positions c =
     let b = c .before in
-    fits w32 (more w32 (b .args .t1 .positions) (b .args .buyer) (b .args .seller) (b .pre .2) (b .pre .4) (moved b) tt tt) tt
+    fits w32 (more w32 (b .args .positions .now) (b .args .buyer) (b .args .seller) (b .pre .2) (b .pre .4) (moved b) tt tt) tt
 
-mul-s-2 : tie.Need-mul-s-2
-mul-s-2 c = search needs
+mul-positions-2 : tie.Need-mul-positions-2
+mul-positions-2 c = search needs
 
-element-set-from-s : tie.Need-element-set-from-s
-element-set-from-s c = search needs
+element-set-from-positions : tie.Need-element-set-from-positions
+element-set-from-positions c = search needs
 
-mul-s-3 : tie.Need-mul-s-3
-mul-s-3 c = search needs
+mul-positions-3 : tie.Need-mul-positions-3
+mul-positions-3 c = search needs
 
-element-copy-out-s-2 : tie.Need-element-copy-out-s-2
-element-copy-out-s-2 c = search needs
+element-copy-out-positions-2 : tie.Need-element-copy-out-positions-2
+element-copy-out-positions-2 c = search needs
 
-sub-s : tie.Need-sub-s
-sub-s c =
+sub-positions : tie.Need-sub-positions
+sub-positions c =
     let b = c .before .before in
-    fits w32 (fewer w32 (b .args .t1 .positions) (b .args .buyer) (b .args .seller) (b .pre .2) (b .pre .4) (moved b) tt tt) tt
+    fits w32 (fewer w32 (b .args .positions .now) (b .args .buyer) (b .args .seller) (b .pre .2) (b .pre .4) (moved b) tt tt) tt
 
-mul-t14 : tie.Need-mul-t14
-mul-t14 c = search needs
+mul-t13 : tie.Need-mul-t13
+mul-t13 c = search needs
 
-element-set-from-s-2 : tie.Need-element-set-from-s-2
-element-set-from-s-2 c = search needs
+element-set-from-positions-2 : tie.Need-element-set-from-positions-2
+element-set-from-positions-2 c = search needs
 
 returns : tie.Need-returns
 returns c =
     let b = c .before .before in
-    let s = b .args .t1 in
-    λ i. record {
-      listing = s .listing;
-      mark = s .mark;
-      price = s .price;
-      positions = moved-is w32 (s .positions) (b .args .buyer) (b .args .seller) (b .pre .2) (b .pre .4) (moved b) tt tt i;
-      opening = s .opening;
-      requests = s .requests;
-      declined = s .declined;
-      futures = s .futures;
-    }
+    moved-is w32 (b .args .positions .now) (b .args .buyer) (b .args .seller) (b .pre .2) (b .pre .4) (moved b) tt tt
 
 pub trade-spec : {M : Type 1} → statement M
 trade-spec =
     tie.close
     (tie.spec
     cast-q
-    mul-s
-    element-copy-out-s
-    add-s
-    mul-s-2
-    element-set-from-s
-    mul-s-3
-    element-copy-out-s-2
-    sub-s
-    mul-t14
-    element-set-from-s-2
+    mul-positions
+    element-copy-out-positions
+    add-positions
+    mul-positions-2
+    element-set-from-positions
+    mul-positions-3
+    element-copy-out-positions-2
+    sub-positions
+    mul-t13
+    element-set-from-positions-2
     returns)

@@ -1,4 +1,3 @@
-use borrow.Author.Needs.{needs}
 use Rattle.choice.specs.Choice.{hit, past, tests}
 use Rattle.series.proofs.verdict.decline_verdict.Statement.{statement}
 use Rattle.series.proofs.verdict.decline_verdict.Tie as tie

@@ -10,7 +10,7 @@ use Rattle.series.proofs.verdict.exercise_verdict.Statement.{statement}
 use Rattle.series.proofs.verdict.exercise_verdict.Tie as tie
 
 -- what the call gave, of the position itself
-gave : (c : tie.After-held) → c .held .result ≡ held (at (c .before .before .before .before .before .before .before .args .t1 .positions) (c .before .before .before .before .before .before .before .args .account))
+gave : (c : tie.After-held) → c .held .result ≡ held (at (c .before .before .before .before .before .before .before .args .positions .now) (c .before .before .before .before .before .before .before .args .account))
 gave c = rw (any w32 (record { sfits = c .before .held-arg .given }) .is) at (c .held .ensures)
 
 returns : tie.Need-returns

@@ -40,30 +40,30 @@ rem-if8 : tie.Need-rem-if8
 rem-if8 c = search needs
 
 abbrev start : tie.Else8 → tie.Start
-start c = c .before .before .before .before .before .before .before .before
+start c = c .before .before .before .before .before .before .before .before .before .before
 
 small : (c : tie.Else8) → start c .args .quantity ≤ 1000
 small c = omega arith
 
 module _ (c : tie.After-passes-limit-arg) where
-  abbrev buyer-position : Reads 2147483648 (at (start (c .before) .args .t1 .positions) (start (c .before) .args .buyer))
+  abbrev buyer-position : Reads 2147483648 (at (start (c .before) .args .positions .now) (start (c .before) .args .buyer))
   buyer-position = any w32 (record { sfits = c .passes-limit-arg .given })
 
-  abbrev bought : Reads 2147484648 (at (start (c .before) .args .t1 .positions) (start (c .before) .args .buyer) +ℤ pos (start (c .before) .args .quantity))
+  abbrev bought : Reads 2147484648 (at (start (c .before) .args .positions .now) (start (c .before) .args .buyer) +ℤ pos (start (c .before) .args .quantity))
   bought = plus (local w64 buyer-position tt) (nat w64 (small (c .before)) tt)
 
 module _ (c : tie.After-passes-limit-arg2) where
-  abbrev seller-position : Reads 2147483648 (at (start (c .before .before .before .before) .args .t1 .positions) (start (c .before .before .before .before) .args .seller))
+  abbrev seller-position : Reads 2147483648 (at (start (c .before .before .before .before) .args .positions .now) (start (c .before .before .before .before) .args .seller))
   seller-position = any w32 (record { sfits = c .passes-limit-arg2 .given })
 
-  abbrev sold : Reads 2147484648 (at (start (c .before .before .before .before) .args .t1 .positions) (start (c .before .before .before .before) .args .seller) -ℤ pos (start (c .before .before .before .before) .args .quantity))
+  abbrev sold : Reads 2147484648 (at (start (c .before .before .before .before) .args .positions .now) (start (c .before .before .before .before) .args .seller) -ℤ pos (start (c .before .before .before .before) .args .quantity))
   sold = minus (local w64 seller-position tt) (nat w64 (small (c .before .before .before .before)) tt)
 
 -- what the two calls gave, of the positions themselves
-buyer-passes : (c : tie.After-passes-limit) → c .passes-limit .result ≡ passesLimit (at (start (c .before .before) .args .t1 .positions) (start (c .before .before) .args .buyer) +ℤ pos (start (c .before .before) .args .quantity))
+buyer-passes : (c : tie.After-passes-limit) → c .passes-limit .result ≡ passesLimit (at (start (c .before .before) .args .positions .now) (start (c .before .before) .args .buyer) +ℤ pos (start (c .before .before) .args .quantity))
 buyer-passes c = rw (local w64 (bought (c .before)) tt .is) at (c .passes-limit .ensures)
 
-seller-passes : (c : tie.After-passes-limit2) → c .passes-limit2 .result ≡ passesLimit (at (start (c .before .before .before .before .before) .args .t1 .positions) (start (c .before .before .before .before .before) .args .seller) -ℤ pos (start (c .before .before .before .before .before) .args .quantity))
+seller-passes : (c : tie.After-passes-limit2) → c .passes-limit2 .result ≡ passesLimit (at (start (c .before .before .before .before .before) .args .positions .now) (start (c .before .before .before .before .before) .args .seller) -ℤ pos (start (c .before .before .before .before .before) .args .quantity))
 seller-passes c = rw (local w64 (sold (c .before)) tt .is) at (c .passes-limit2 .ensures)
 
 returns-8 : tie.Need-returns-8
