@@ -1,6 +1,5 @@
 -- What a read of the input leaves.
 use Prim.Native.Nat.{ℕ, _≤_}
-use mathlib.Core.Logic.{_⊎_}
 use Rattle.replay.specs.declared.Input.{Input}
 use Rattle.replay.specs.declared.Input.the-variants.{UpTo, Ended, Failed}
 

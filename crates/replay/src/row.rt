@@ -1,4 +1,6 @@
 use crate::number;
+use book::apply;
+use book::effect;
 use book::state::Book;
 use book::state::Event;
 use book::state::Found;
@@ -7,9 +9,19 @@ use report::session;
 use rows::cut;
 use rows::types::End;
 use rows::types::Row;
-ghost use Prim.Native.Nat.{_+_, _≤_};
-ghost use lib.ListN.{length};
+use terms::bounds::SERIES;
+ghost use mathlib.Core.Path.{_≡_};
+ghost use mathlib.Core.Bool.{false};
+ghost use mathlib.Core.List.{[]};
+ghost use Prim.Native.Nat.{_+_, _%_, _^_, _≤_};
+ghost use lib.ListN.{length, drop};
 ghost use Rattle.book.specs.Good.{Good};
+ghost use Rattle.book.specs.Step.{stepOf};
+ghost use Rattle.decimal.specs.Put.{Put};
+ghost use Rattle.report.specs.Report.{isSession, reportOf};
+ghost use Rattle.rows.specs.Cut.{cut};
+ghost use Rattle.rows.specs.Row.{rowOf};
+ghost use Rattle.replay.specs.Rows.{bookBy, bookAfter, linesBy};
 
 // The book, the rows answered so far, and the bytes of output that wait to be written.
 pub struct Replay {
@@ -24,18 +36,38 @@ pub struct Passed {
     pub from: usize,
 }
 
-fn is_session(event: Event) -> bool {
+// The replay up to a place of its buffer.
+fn up_to(book: Book, row: u64, at: usize, from: usize) -> Passed
+    ensures { λ r. ⌜ (r .replay .book ≡ book) × (r .replay .at ≡ at) × (r .from ≡ from) ⌝ }
+{
+    Passed {
+        replay: Replay {
+            book: book,
+            row: row,
+            at: at,
+        },
+        from: from,
+    }
+}
+
+fn is_session(event: Event) -> bool
+    ensures { λ r. ⌜ r ≡ isSession event ⌝ }
+{
     match event {
+        Event::List { .. } => false,
+        Event::Trade { .. } => false,
+        Event::Exercise { .. } => false,
+        Event::Decline { .. } => false,
+        Event::Mark { .. } => false,
         Event::Intraday => true,
         Event::Evening => true,
-        _ => false,
     }
 }
 
 // A session: its step, and all its lines.
 fn session_row(out: &mut [u8], at: usize, row: u64, book: Book, event: Event) -> Replay
     requires { ⌜ (Good book) × (at + 36928 ≤ length (now out)) ⌝ }
-    ensures { λ r. ⌜ (Good (r .book)) × (r .at ≤ at + 36928) ⌝ }
+    ensures { λ r. ⌜ (Good (r .book)) × (r .at ≤ at + 36928) × (r .row ≡ row) × (r .book ≡ stepOf book event .book) × Put (now (out .entry)) at (reportOf row (book .series) (stepOf book event)) (now (out .exit)) (r .at) ⌝ }
 {
     let before = book.series;
     let step = book::step(book, event);
@@ -50,8 +82,8 @@ fn session_row(out: &mut [u8], at: usize, row: u64, book: Book, event: Event) ->
 
 // An event that is no session: its step, and its answer, which is all its report.
 fn event_row(out: &mut [u8], at: usize, row: u64, book: Book, event: Event) -> Replay
-    requires { ⌜ (Good book) × (at + 36928 ≤ length (now out)) ⌝ }
-    ensures { λ r. ⌜ (Good (r .book)) × (r .at ≤ at + 36928) ⌝ }
+    requires { ⌜ (Good book) × (at + 36928 ≤ length (now out)) × (isSession event ≡ false) ⌝ }
+    ensures { λ r. ⌜ (Good (r .book)) × (r .at ≤ at + 36928) × (r .row ≡ row) × (r .book ≡ stepOf book event .book) × Put (now (out .entry)) at (reportOf row (book .series) (stepOf book event)) (now (out .exit)) (r .at) ⌝ }
 {
     let step = book::step(book, event);
     let answer = step.answer;
@@ -67,7 +99,7 @@ fn event_row(out: &mut [u8], at: usize, row: u64, book: Book, event: Event) -> R
 // One row: its event is carried out or refused, and its lines are written.
 pub fn answer_row(bytes: &[u8], out: &mut [u8], replay: Replay) -> Replay
     requires { ⌜ (Good (replay .book)) × (replay .at + 36928 ≤ length (now out)) ⌝ }
-    ensures { λ r. ⌜ (Good (r .book)) × (r .at ≤ replay .at + 36928) ⌝ }
+    ensures { λ r. ⌜ (Good (r .book)) × (r .at ≤ replay .at + 36928) × (r .row ≡ (replay .row + 1) % 2 ^ 64) × (r .book ≡ bookBy (replay .book) (rowOf (now (bytes .entry)))) × Put (now (out .entry)) (replay .at) (linesBy (r .row) (replay .book) (rowOf (now (bytes .entry)))) (now (out .exit)) (r .at) ⌝ }
 {
     let row = std::num::wrapping_add_u64(replay.row, 1);
     let book = replay.book;
@@ -102,21 +134,72 @@ pub fn flushed(out: &mut [u8], at: usize) -> usize
     0
 }
 
+// From a place of a buffer on, the rows that are events on one series, up to the first other row. The book stays where it is: each
+// row changes one series of it, and the blotter.
+fn series_rows(input: &[u8], start: usize, out: &mut [u8], replay: Replay) -> Passed
+    requires { ⌜ (Good (replay .book)) × (replay .at ≤ 28608) × (65536 ≤ length (now out)) × (start ≤ length (now input)) ⌝ }
+    ensures { λ r. ⌜ (Good (r .replay .book)) × (r .replay .at ≤ 28608) × (start ≤ r .from) × (r .from ≤ length (now (input .entry))) × (bookAfter (replay .book) (cut (drop start (now (input .entry))) .rows) ≡ bookAfter (r .replay .book) (cut (drop (r .from) (now (input .entry))) .rows)) ⌝ }
+{
+    let mut book = replay.book;
+    let mut row = replay.row;
+    let mut at = replay.at;
+    let mut from = start;
+    loop {
+        let End::At(end) = cut::row_end(input, from) else {
+            return up_to(book, row, at, from);
+        };
+        let Row::Accepted(event) = rows::read_row(&input[from..end]) else {
+            return up_to(book, row, at, from);
+        };
+        let i = effect::series_of(event);
+        if SERIES <= i {
+            return up_to(book, row, at, from);
+        }
+        let mut s = book.series[i];
+        let listing = s.listing;
+        let effect = effect::effect(
+            listing,
+            &s.positions,
+            book.day,
+            book.listed,
+            book.trades,
+            event,
+        );
+        apply::move_positions(&mut s.positions, effect);
+        apply::set_request(&mut s.requests, effect);
+        apply::set_refusal(&mut s.declined, effect);
+        let mark = s.mark;
+        let marked = apply::mark(mark, effect);
+        s.mark = marked;
+        book.series[i] = s;
+        let n = apply::next_record(book.trades);
+        let next = book.blotter[n];
+        let joined = apply::joined(next, effect);
+        book.blotter[n] = joined;
+        book.trades = apply::counted(book.trades, effect);
+        let answer = apply::answer(effect);
+        row = std::num::wrapping_add_u64(row, 1);
+        let end_of_line = session::answered(out, at, row, answer);
+        at = flushed(out, end_of_line);
+        from = end + 2;
+    }
+}
+
 // The rows of a buffer that end in it.
 pub fn whole_rows(input: &[u8], out: &mut [u8], replay: Replay) -> Passed
     requires { ⌜ (Good (replay .book)) × (replay .at ≤ 28608) × (65536 ≤ length (now out)) ⌝ }
-    ensures { λ r. ⌜ (Good (r .replay .book)) × (r .replay .at ≤ 28608) × (r .from ≤ length (now (input .entry))) ⌝ }
+    ensures { λ r. ⌜ (Good (r .replay .book)) × (r .replay .at ≤ 28608) × (r .from ≤ length (now (input .entry))) × (r .replay .book ≡ bookAfter (replay .book) (cut (now (input .entry)) .rows)) × (cut (drop (r .from) (now (input .entry))) .rows ≡ []) ⌝ }
 {
     let mut now = replay;
     let mut from = 0;
     loop {
-        let End::At(end) = cut::row_end(input, from) else {
-            return Passed {
-                replay: now,
-                from: from,
-            };
+        let some = series_rows(input, from, out, now);
+        let start = some.from;
+        let End::At(end) = cut::row_end(input, start) else {
+            return some;
         };
-        let next = answer_row(&input[from..end], out, now);
+        let rest = some.replay;
+        let next = answer_row(&input[start..end], out, rest);
         let at = flushed(out, next.at);
         now = next;
         now.at = at;

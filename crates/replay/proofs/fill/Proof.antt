@@ -1,5 +1,4 @@
 -- `replay::fill` meets its contract.
-use native.Mathlib.Omega.{arith}
 use Rattle.replay.specs.Input.{Within}
 use borrow.Author.Needs.{needs}
 use Rattle.replay.proofs.fill.Statement.{statement}

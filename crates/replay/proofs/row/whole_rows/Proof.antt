@@ -1,36 +1,59 @@
 -- `replay::row::whole_rows` meets its contract: the book stays good, and there is room for the lines of one more row.
 use borrow.Author.Needs.{needs}
 use Prim.Native.Nat.{ℕ, _+_, _-_, _≤_}
-use mathlib.Core.Path.{_≡_, refl, sym, _∙_}
+use mathlib.Core.Path.{_≡_, refl, sym, ap, _∙_}
 use native.Mathlib.Omega.{arith}
 use mathlib.Core.List.{List}
 use lib.ListN.{length, drop, length-drop}
 use Rattle.book.specs.Good.{Good}
-use Rattle.rows.proofs.Ends.{end-fits}
+use Rattle.book.specs.declared.state.Book.{Book}
+use Rattle.rows.specs.Cut.{Cut, cut}
+use Rattle.rows.proofs.Ends.{end-fits, no-row}
+use Rattle.replay.specs.Rows.{bookAfter}
+use Rattle.replay.proofs.Books.{after-none, after-next}
 use Rattle.replay.proofs.row.whole_rows.Statement.{statement}
 use Rattle.replay.proofs.row.whole_rows.Tie as tie
 
 abbrev Inv-loop : tie.InvT-loop
-Inv-loop input out₀ now₀ from₀ out now from = (Good (now .book)) × (now .at ≤ 28608) × (from ≤ length input) × (length out ≡ length out₀)
+Inv-loop input out₀ now₀ from₀ out now from =
+    (Good (now .book)) × (now .at ≤ 28608) × (from ≤ length input) × (length out ≡ length out₀)
+    × (bookAfter (now₀ .book) (cut input .rows) ≡ bookAfter (now .book) (cut (drop from input) .rows))
 
 abbrev μ-loop : tie.MeasureT-loop
 μ-loop input out₀ now₀ from₀ out now from = length input - from
 
--- where a row that was found ends
+-- where a row that was found ends, past the rows on one series
 module _ (c : tie.After-known-told Inv-loop μ-loop) where
+  abbrev some : tie.After-series-rows Inv-loop μ-loop
+  some = c .before .before .before .before .before .before
+
   abbrev top : tie.At-loop Inv-loop μ-loop
-  top = c .before .before .before .before
+  top = some .before .before
 
   abbrev input : List ℕ
   input = top .before .before .before .args .input .now
 
-  ends : (top .loop .from ≤ c .before .end .given .0 .0) × (c .before .end .given .0 .0 + 2 ≤ length input)
+  ends : (some .series-rows .result .from ≤ c .before .end .given .0 .0) × (c .before .end .given .0 .0 + 2 ≤ length input)
   ends =
-      let f = end-fits (drop (top .loop .from) input) (top .loop .from) (c .before .end .given .0 .0) (sym (c .before .before .before .row-end .ensures) ∙ c .before .end .given .1) in
-      (f .0, omega (arith, simp length-drop at (f .1), top .loop .inv .2))
+      let r = some .series-rows in
+      let f = end-fits (drop (r .result .from) input) (r .result .from) (c .before .end .given .0 .0) (sym (c .before .before .before .row-end .ensures) ∙ c .before .end .given .1) in
+      (f .0, omega (arith, simp length-drop at (f .1), r .ensures .3))
+
+  -- the room for the lines of one more row
+  room : 65536 ≤ length (top .loop .out)
+  room = omega (arith, top .loop .inv .3, top .before .before .before .pre .2)
+
+-- the row, from the end of a turn
+abbrev row-of : tie.After-slice-known4 Inv-loop μ-loop → tie.After-known-told Inv-loop μ-loop
+row-of c = c .before .before .before .before .before .before .before .before .before .before
 
 loop-holds : tie.Need-loop-holds Inv-loop μ-loop
-loop-holds c = (c .before .before .pre .0, c .before .before .pre .1, omega arith, refl)
+loop-holds c = (c .before .before .pre .0, c .before .before .pre .1, omega arith, refl, refl)
+
+series-rows-requires : tie.Need-series-rows-requires Inv-loop μ-loop
+series-rows-requires c κs =
+    let l = c .before in
+    (l .loop .inv .0, l .loop .inv .1, omega (arith, l .loop .inv .3, l .before .before .before .pre .2), l .loop .inv .2)
 
 row-end-requires : tie.Need-row-end-requires Inv-loop μ-loop
 row-end-requires c κs = search needs
@@ -42,43 +65,72 @@ enum-told : tie.Need-enum-told Inv-loop μ-loop
 enum-told c = search needs
 
 same-length : tie.Need-same-length Inv-loop μ-loop
-same-length c = omega (arith, c .before .before .before .loop .inv .3)
+same-length c =
+    let s = c .before .before .before .before .before in
+    omega (arith, s .series-rows .kept .1, s .before .before .loop .inv .3)
 
 returns : tie.Need-returns Inv-loop μ-loop
-returns c = (c .before .before .before .loop .inv .0, c .before .before .before .loop .inv .1, c .before .before .before .loop .inv .2)
+returns c =
+    let s = c .before .before .before .before .before in
+    let l = s .before .before in
+    let r = s .series-rows in
+    let e = c .before .before .row-end .ensures in
+    let q = c .enum-told .given .1 in
+    let buffer = l .before .before .before .args .input .now in (
+      r .ensures .0,
+      r .ensures .1,
+      r .ensures .3,
+      sym (l .loop .inv .4 ∙ r .ensures .4 ∙ after-none buffer (r .result .from) e (r .result .replay .book) q),
+      ap (λ (k : Cut). k .rows) (no-row buffer (r .result .from) _ e q),
+    )
 
 sub-answer-row : tie.Need-sub-answer-row Inv-loop μ-loop
-sub-answer-row c = ends c .0
+sub-answer-row c = ends (c .before) .0
 
 part-answer-row-start : tie.Need-part-answer-row-start Inv-loop μ-loop
-part-answer-row-start c = ends c .0
+part-answer-row-start c = ends (c .before) .0
 
 part-answer-row-end : tie.Need-part-answer-row-end Inv-loop μ-loop
-part-answer-row-end c = omega (arith, ends c .1)
+part-answer-row-end c = omega (arith, ends (c .before) .1)
 
 answer-row-requires : tie.Need-answer-row-requires Inv-loop μ-loop
 answer-row-requires c κs =
-    let l = c .before .before .before .before .before .before .loop in
-    (l .inv .0, omega (arith, l .inv .1, l .inv .3, c .before .before .before .before .before .before .before .before .before .pre .2))
+    let k = c .before .before .before in
+    let r = some k .series-rows in
+    (r .ensures .0, omega (arith, r .ensures .1, r .kept .1, room k))
 
 flushed-requires : tie.Need-flushed-requires Inv-loop μ-loop
 flushed-requires c κs =
-    let l = c .before .before .before .before .before .before .before .before .before .before .loop in
+    let k = c .before .before .before .before .before .before .before in
+    let r = some k .series-rows in
     let a = c .before .before .before .answer-row in
-    omega (arith, a .ensures .1, a .kept .1, l .inv .1, l .inv .3, c .before .before .before .before .before .before .before .before .before .before .before .before .before .pre .2)
+    omega (arith, a .ensures .1, a .kept .1, r .ensures .1, r .kept .1, room k)
 
 add-from : tie.Need-add-from Inv-loop μ-loop
-add-from c = omega (arith, ends (c .before .before .before .before .before .before .before .before .before) .1)
+add-from c =
+    let k = row-of c in
+    omega (arith, ends k .1, top k .before .before .before .good .0 .0)
 
 loop-less : tie.Need-loop-less Inv-loop μ-loop
-loop-less c = omega (arith, ends (c .before .before .before .before .before .before .before .before .before) .0, ends (c .before .before .before .before .before .before .before .before .before) .1)
+loop-less c =
+    let k = row-of c in
+    omega (arith, ends k .0, ends k .1, some k .series-rows .ensures .2)
 
 loop-again : tie.Need-loop-again Inv-loop μ-loop
 loop-again c =
-    let l = c .before .before .before .before .before .before .before .before .before .before .before .before .before .loop in
+    let k = row-of c in
     let a = c .before .before .before .before .before .before .answer-row in
     let f = c .before .before .flushed in
-    (a .ensures .0, f .ensures, ends (c .before .before .before .before .before .before .before .before .before) .1, omega (arith, a .kept .1, f .kept .0, l .inv .3))
+    let r = some k .series-rows in
+    let end = k .before .end .given .0 .0 in (
+      a .ensures .0,
+      f .ensures,
+      ends k .1,
+      omega (arith, a .kept .1, f .kept .0, r .kept .1, top k .loop .inv .3),
+      top k .loop .inv .4 ∙ r .ensures .4
+          ∙ after-next (input k) (r .result .from) (k .before .before .before .row-end .ensures) (r .result .replay .book) end (k .before .end .given .1)
+          ∙ ap (λ (x : Book). bookAfter x (cut (drop (end + 2) (input k)) .rows)) (sym (a .ensures .3)),
+    )
 
 pub whole-rows-spec : {M : Type 1} → statement M
 whole-rows-spec =
@@ -87,6 +139,7 @@ whole-rows-spec =
     Inv-loop
     μ-loop
     loop-holds
+    series-rows-requires
     row-end-requires
     enum-known-end
     enum-told

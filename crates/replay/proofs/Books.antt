@@ -1,0 +1,59 @@
+-- The book row by row.
+use mathlib.Core.Path.{_≡_, refl, sym, ap}
+use mathlib.Core.List.{List, [], _∷_}
+use Prim.Native.Nat.{ℕ, _+_, _-_, _<_}
+use native.Mathlib.Omega.{arith}
+use lib.ListN.{length, take, drop}
+use Rattle.book.specs.Step.{stepOf}
+use Rattle.book.specs.declared.state.Book.{Book}
+use Rattle.book.specs.declared.state.Event.{Event}
+use Rattle.book.specs.declared.state.Found.the-variants.{Nothing}
+use Rattle.report.specs.Report.{answerLine, reportOf}
+use Rattle.rows.specs.Cut.{Cut, cut, endFrom, lastRow}
+use Rattle.rows.specs.Row.{rowOf, number}
+use Rattle.rows.specs.declared.types.End.{End}
+use Rattle.rows.specs.declared.types.End.the-variants.{At, NoEnd}
+use Rattle.rows.specs.declared.types.Refusal.{Refusal}
+use Rattle.rows.specs.declared.types.Row.{Row}
+use Rattle.rows.specs.declared.types.Row.the-variants.{Accepted, Refused}
+use Rattle.rows.proofs.Ends.{next-row, no-row}
+use Rattle.replay.specs.Rows.{bookBy, bookAfter, linesBy}
+
+-- a row by what the reader made of it
+module _ (b : Book) {row : Row} where
+  pub book-accepted : {e : Event} → row ≡ Accepted e → stepOf b e .book ≡ bookBy b row
+  unfolding bookBy
+  book-accepted q = ap (bookBy b) (sym q)
+
+  pub book-refused : {why : Refusal} → row ≡ Refused why → b ≡ bookBy b row
+  unfolding bookBy
+  book-refused q = ap (bookBy b) (sym q)
+
+  pub lines-refused : (n : ℕ) {why : Refusal} → row ≡ Refused why → answerLine n Nothing (number why) ≡ linesBy n b row
+  unfolding linesBy
+  lines-refused n q = ap (linesBy n b) (sym q)
+
+  pub lines-accepted : (n : ℕ) {e : Event} → row ≡ Accepted e → reportOf n (b .series) (stepOf b e) ≡ linesBy n b row
+  unfolding linesBy
+  lines-accepted n q = ap (linesBy n b) (sym q)
+
+-- the rows of a buffer from a place on, by what the search for the next one answered
+module _ (s : List ℕ) (from : ℕ) {r : End} (p : r ≡ endFrom s from) (b : Book) where
+  pub after-next : (end : ℕ) → r ≡ At end
+      → bookAfter b (cut (drop from s) .rows) ≡ bookAfter (bookBy b (rowOf (take (end - from) (drop from s)))) (cut (drop (end + 2) s) .rows)
+  unfolding bookAfter
+  after-next end q = ap (λ (k : Cut). bookAfter b (k .rows)) (next-row s from r p end q)
+
+  pub after-none : r ≡ NoEnd → bookAfter b (cut (drop from s) .rows) ≡ b
+  unfolding bookAfter
+  after-none q = ap (λ (k : Cut). bookAfter b (k .rows)) (no-row s from r p q)
+
+-- the row that the input's end leaves, if any
+pub last-none : (b : Book) (s : List ℕ) (n : ℕ) → n ≡ 0 → b ≡ bookAfter b (lastRow (take n s))
+unfolding bookAfter lastRow
+last-none b s n q = rw q refl
+
+pub last-some : (b : Book) (s : List ℕ) → 0 < length s → bookBy b (rowOf s) ≡ bookAfter b (lastRow s)
+unfolding bookAfter lastRow
+last-some b [] h = absurd (omega arith)
+last-some b (x ∷ s) h = refl

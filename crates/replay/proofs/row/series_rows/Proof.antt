@@ -1,0 +1,303 @@
+-- `replay::row::series_rows` meets its contract: each row is its event's step, which keeps the book good.
+use borrow.Author.Needs.{needs}
+use Prim.Native.Nat.{ℕ, _+_, _-_, _≤_, _<_}
+use mathlib.Core.Path.{_≡_, refl, sym, ap, _∙_}
+use native.Mathlib.Omega.{arith}
+use mathlib.Core.List.{List}
+use lib.ListN.{length, drop, length-drop}
+use Rattle.terms.specs.Bounds.{seriesRoom, blotterRoom}
+use Rattle.book.specs.Effects.{Fits}
+use Rattle.book.specs.Good.{Good}
+use Rattle.book.specs.Step.{stepOf}
+use Rattle.book.specs.declared.state.Book.{Book}
+use Rattle.book.specs.declared.state.Event.{Event}
+use Rattle.book.specs.declared.state.Step.{Step}
+use Rattle.book.proofs.Keeps.{good-step}
+use Rattle.book.proofs.Effects.{next-record-within, effect-fits, step-stored}
+use Rattle.rows.specs.Cut.{cut}
+use Rattle.rows.proofs.Ends.{end-fits}
+use Rattle.replay.specs.Rows.{bookAfter}
+use Rattle.replay.specs.declared.row.Passed.{Passed}
+use Rattle.replay.proofs.Books.{book-accepted, after-next}
+use Rattle.replay.proofs.row.series_rows.Statement.{statement}
+use Rattle.replay.proofs.row.series_rows.Tie as tie
+
+abbrev Inv-loop : tie.InvT-loop
+Inv-loop input start out₀ book₀ row₀ at₀ from₀ out book row at from =
+    (Good book) × (at ≤ 28608) × (start ≤ from) × (from ≤ length input) × (length out ≡ length out₀)
+    × (bookAfter book₀ (cut (drop start input) .rows) ≡ bookAfter book (cut (drop from input) .rows))
+
+abbrev μ-loop : tie.MeasureT-loop
+μ-loop input start out₀ book₀ row₀ at₀ from₀ out book row at from = length input - from
+
+-- a step keeps the book good
+stays-good : (b : Book) (e : Event) (s : Step) → Good b → s ≡ stepOf b e → Good (s .book)
+stays-good b e s g p = rw p (good-step b g e)
+
+-- where a row that was found ends
+module _ (c : tie.After-known-told Inv-loop μ-loop) where
+  abbrev top : tie.At-loop Inv-loop μ-loop
+  top = c .before .before .before .before
+
+  abbrev input : List ℕ
+  input = top .before .before .before .before .args .input .now
+
+  ends : (top .loop .from ≤ c .before .end .given .0 .0) × (c .before .end .given .0 .0 + 2 ≤ length input)
+  ends =
+      let f = end-fits (drop (top .loop .from) input) (top .loop .from) (c .before .end .given .0 .0) (sym (c .before .before .before .row-end .ensures) ∙ c .before .end .given .1) in
+      (f .0, omega (arith, simp length-drop at (f .1), top .loop .inv .3))
+
+-- what is returned from a turn of the loop
+passed : (l : tie.At-loop Inv-loop μ-loop) (r : Passed) → (r .replay .book ≡ l .loop .book) × (r .replay .at ≡ l .loop .at) × (r .from ≡ l .loop .from)
+    → (Good (r .replay .book)) × (r .replay .at ≤ 28608) × (l .before .before .before .before .args .start ≤ r .from) × (r .from ≤ length (l .before .before .before .before .args .input .now))
+    × (bookAfter (l .before .before .before .before .args .replay .book) (cut (drop (l .before .before .before .before .args .start) (l .before .before .before .before .args .input .now)) .rows)
+    ≡ bookAfter (r .replay .book) (cut (drop (r .from) (l .before .before .before .before .args .input .now)) .rows))
+passed l r p =
+    (rw (p .0) (l .loop .inv .0), omega (arith, p .1, l .loop .inv .1), omega (arith, p .2, l .loop .inv .2), omega (arith, p .2, l .loop .inv .3), rw (p .0, p .2) (l .loop .inv .5))
+
+-- the effect of a row's event, the row, and the turn of the loop
+module _ (f : tie.After-effect Inv-loop μ-loop) where
+  abbrev row-of : tie.After-known-told Inv-loop μ-loop
+  row-of = f .before .before .before .before .before .before .before .before .before .before .before .before
+
+  abbrev event : Event
+  event = f .before .before .before .before .before .before .before .before .event .given .0 .0
+
+  abbrev loop-of : tie.At-loop Inv-loop μ-loop
+  loop-of = top row-of
+
+  abbrev series-at : ℕ
+  series-at = f .before .before .before .before .before .before .series-of .result
+
+  room : series-at < seriesRoom
+  room = f .before .before .before .before .before .if1 .left
+
+  fits : Fits (f .effect .result)
+  fits = effect-fits (loop-of .loop .book) event _ (f .before .before .before .before .before .before .series-of .ensures) _ (f .effect .ensures)
+
+record-of : (c : tie.After-next-record Inv-loop μ-loop) → c .next-record .result < blotterRoom
+record-of c = next-record-within _ (c .next-record .ensures)
+
+-- where the effect was known, from the answer on
+abbrev effected : tie.After-answer Inv-loop μ-loop → tie.After-effect Inv-loop μ-loop
+effected c = c .before .before .before .before .before .before .before .before .before .before .before .before .before
+
+abbrev answer-of : tie.After-slice-known3 Inv-loop μ-loop → tie.After-answer Inv-loop μ-loop
+answer-of c = c .before .before .before .before .before .before .before .before .before
+
+loop-holds : tie.Need-loop-holds Inv-loop μ-loop
+loop-holds c =
+    let s = c .before .before .before in
+    (s .pre .0, s .pre .1, omega arith, s .pre .3, refl, refl)
+
+row-end-requires : tie.Need-row-end-requires Inv-loop μ-loop
+row-end-requires c κs = search needs
+
+enum-known-end : tie.Need-enum-known-end Inv-loop μ-loop
+enum-known-end c = search needs
+
+enum-told : tie.Need-enum-told Inv-loop μ-loop
+enum-told c = search needs
+
+up-to-requires : tie.Need-up-to-requires Inv-loop μ-loop
+up-to-requires c κs = search needs
+
+same-length : tie.Need-same-length Inv-loop μ-loop
+same-length c = omega (arith, c .before .before .before .before .loop .inv .4)
+
+returns : tie.Need-returns Inv-loop μ-loop
+returns c = passed (c .before .before .before .before) (c .up-to .result) (c .up-to .ensures)
+
+sub-read-row : tie.Need-sub-read-row Inv-loop μ-loop
+sub-read-row c = ends c .0
+
+part-read-row-start : tie.Need-part-read-row-start Inv-loop μ-loop
+part-read-row-start c = ends c .0
+
+part-read-row-end : tie.Need-part-read-row-end Inv-loop μ-loop
+part-read-row-end c = omega (arith, ends c .1)
+
+read-row-requires : tie.Need-read-row-requires Inv-loop μ-loop
+read-row-requires c κs = search needs
+
+enum-known-event : tie.Need-enum-known-event Inv-loop μ-loop
+enum-known-event c = search needs
+
+enum-told-2 : tie.Need-enum-told-2 Inv-loop μ-loop
+enum-told-2 c = search needs
+
+up-to-requires-2 : tie.Need-up-to-requires-2 Inv-loop μ-loop
+up-to-requires-2 c κs = search needs
+
+same-length-2 : tie.Need-same-length-2 Inv-loop μ-loop
+same-length-2 c = omega (arith, top (c .before .before .before .before .before) .loop .inv .4)
+
+returns-2 : tie.Need-returns-2 Inv-loop μ-loop
+returns-2 c = passed (top (c .before .before .before .before .before)) (c .up-to2 .result) (c .up-to2 .ensures)
+
+series-of-requires : tie.Need-series-of-requires Inv-loop μ-loop
+series-of-requires c κs = search needs
+
+up-to-requires-3 : tie.Need-up-to-requires-3 Inv-loop μ-loop
+up-to-requires-3 c κs = search needs
+
+same-length-3 : tie.Need-same-length-3 Inv-loop μ-loop
+same-length-3 c = omega (arith, top (c .before .before .before .before .before .before .before .before) .loop .inv .4)
+
+returns-3 : tie.Need-returns-3 Inv-loop μ-loop
+returns-3 c = passed (top (c .before .before .before .before .before .before .before .before)) (c .up-to3 .result) (c .up-to3 .ensures)
+
+mul-s : tie.Need-mul-s Inv-loop μ-loop
+mul-s c = omega (arith, c .if1 .left)
+
+element-copy-out-s : tie.Need-element-copy-out-s Inv-loop μ-loop
+element-copy-out-s c = c .if1 .left
+
+effect-requires : tie.Need-effect-requires Inv-loop μ-loop
+effect-requires c κs =
+    let l = top (c .before .before .before .before .before .before .before .before .before .before .before) .loop in
+    let n = c .before .before .before .before .before .series-of in
+    (l .inv .0 .series (n .result) (c .before .before .before .before .if1 .left) .positions .bounded, rw (← n .ensures) (l .inv .0 .tick (n .result)))
+
+move-positions-requires : tie.Need-move-positions-requires Inv-loop μ-loop
+move-positions-requires c κs =
+    let f = c .before in
+    (fits f, loop-of f .loop .inv .0 .series (series-at f) (room f) .positions .bounded)
+
+set-request-requires : tie.Need-set-request-requires Inv-loop μ-loop
+set-request-requires c κs = fits (c .before .before .before)
+
+set-refusal-requires : tie.Need-set-refusal-requires Inv-loop μ-loop
+set-refusal-requires c κs = fits (c .before .before .before .before .before)
+
+mark-requires : tie.Need-mark-requires Inv-loop μ-loop
+mark-requires c κs = search needs
+
+mul-t26 : tie.Need-mul-t26 Inv-loop μ-loop
+mul-t26 c = omega (arith, room (c .before .before .before .before .before .before .before .before))
+
+element-set-from-book : tie.Need-element-set-from-book Inv-loop μ-loop
+element-set-from-book c = room (c .before .before .before .before .before .before .before .before)
+
+next-record-requires : tie.Need-next-record-requires Inv-loop μ-loop
+next-record-requires c κs = search needs
+
+mul-next : tie.Need-mul-next Inv-loop μ-loop
+mul-next c = omega (arith, record-of c)
+
+element-copy-out-next : tie.Need-element-copy-out-next Inv-loop μ-loop
+element-copy-out-next c = record-of c
+
+joined-requires : tie.Need-joined-requires Inv-loop μ-loop
+joined-requires c κs = search needs
+
+mul-joined : tie.Need-mul-joined Inv-loop μ-loop
+mul-joined c = omega (arith, record-of (c .before .before))
+
+element-set-from-joined : tie.Need-element-set-from-joined Inv-loop μ-loop
+element-set-from-joined c = record-of (c .before .before)
+
+counted-requires : tie.Need-counted-requires Inv-loop μ-loop
+counted-requires c κs = loop-of (c .before .before .before .before .before .before .before .before .before .before .before) .loop .inv .0 .trades
+
+answer-requires : tie.Need-answer-requires Inv-loop μ-loop
+answer-requires c κs = search needs
+
+wrapping-add-u64-requires : tie.Need-wrapping-add-u64-requires Inv-loop μ-loop
+wrapping-add-u64-requires c κs = search needs
+
+answered-requires : tie.Need-answered-requires Inv-loop μ-loop
+answered-requires c κs =
+    let l = loop-of (effected (c .before .before)) in
+    omega (arith, l .loop .inv .1, l .loop .inv .4, l .before .before .before .before .pre .2)
+
+flushed-requires : tie.Need-flushed-requires Inv-loop μ-loop
+flushed-requires c κs =
+    let a = c .before .before .before in
+    let l = loop-of (effected (a .before .before .before)) in
+    omega (arith, a .answered .ensures .1, a .answered .kept .0, l .loop .inv .1, l .loop .inv .4, l .before .before .before .before .pre .2)
+
+add-from : tie.Need-add-from Inv-loop μ-loop
+add-from c =
+    let r = row-of (effected (answer-of c)) in
+    omega (arith, ends r .1, top r .before .before .before .before .good .0 .0)
+
+loop-less : tie.Need-loop-less Inv-loop μ-loop
+loop-less c =
+    let r = row-of (effected (answer-of c)) in
+    omega (arith, ends r .0, ends r .1)
+
+loop-again : tie.Need-loop-again Inv-loop μ-loop
+loop-again c =
+    let a = answer-of c in
+    let f = effected a in
+    let l = loop-of f .loop in
+    let s = step-stored (l .book) (event f) _ (f .before .before .before .before .before .before .series-of .ensures) _ (f .effect .ensures) _ (a .before .before .before .before .next-record .ensures) (room f)
+    (a .answer .ensures)
+    (a .before .before .before .before .before .before .before .before .before .before .before .move-positions .ensures)
+    (a .before .before .before .before .before .before .before .before .before .set-request .ensures)
+    (a .before .before .before .before .before .before .before .set-refusal .ensures)
+    (a .before .before .before .before .before .mark2 .ensures)
+    (a .before .before .joined .ensures)
+    (a .before .counted .ensures) in
+    let w = c .before .before .flushed in
+    let e = ends (row-of f) in (
+      stays-good (l .book) (event f) _ (l .inv .0) s,
+      w .ensures,
+      omega (arith, e .0, l .inv .2),
+      e .1,
+      omega (arith, c .before .before .before .before .before .before .answered .kept .0, w .kept .0, l .inv .4),
+      l .inv .5 ∙ after-next _ _ (row-of f .before .before .before .row-end .ensures) (l .book) _ (row-of f .before .end .given .1)
+          ∙ ap (λ (x : Book). bookAfter x (cut (drop (row-of f .before .end .given .0 .0 + 2) (input (row-of f))) .rows))
+          (sym (book-accepted (l .book) (sym (f .before .before .before .before .before .before .before .before .before .before .read-row .ensures) ∙ f .before .before .before .before .before .before .before .before .event .given .1)) ∙ ap (λ (x : Step). x .book) (sym s)),
+    )
+
+pub series-rows-spec : {M : Type 1} → statement M
+series-rows-spec =
+    tie.close
+    (tie.spec
+    Inv-loop
+    μ-loop
+    loop-holds
+    row-end-requires
+    enum-known-end
+    enum-told
+    up-to-requires
+    same-length
+    returns
+    sub-read-row
+    part-read-row-start
+    part-read-row-end
+    read-row-requires
+    enum-known-event
+    enum-told-2
+    up-to-requires-2
+    same-length-2
+    returns-2
+    series-of-requires
+    up-to-requires-3
+    same-length-3
+    returns-3
+    mul-s
+    element-copy-out-s
+    effect-requires
+    move-positions-requires
+    set-request-requires
+    set-refusal-requires
+    mark-requires
+    mul-t26
+    element-set-from-book
+    next-record-requires
+    mul-next
+    element-copy-out-next
+    joined-requires
+    mul-joined
+    element-set-from-joined
+    counted-requires
+    answer-requires
+    wrapping-add-u64-requires
+    answered-requires
+    flushed-requires
+    add-from
+    loop-less
+    loop-again)

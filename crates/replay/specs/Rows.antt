@@ -1,0 +1,25 @@
+-- What rows do to the book, and the lines that answer them (01, "Rows").
+use mathlib.Core.List.{List, [], _∷_}
+use Prim.Native.Nat.{ℕ}
+use Rattle.book.specs.Step.{stepOf}
+use Rattle.book.specs.declared.state.Book.{Book}
+use Rattle.book.specs.declared.state.Found.the-variants.{Nothing}
+use Rattle.report.specs.Report.{answerLine, reportOf}
+use Rattle.rows.specs.Row.{rowOf, number}
+use Rattle.rows.specs.declared.types.Row.{Row}
+use Rattle.rows.specs.declared.types.Row.the-variants.{Accepted, Refused}
+
+-- the book after a row: its event's step; a row that is no event leaves it
+unfoldable pub bookBy : Book → Row → Book
+bookBy b (Accepted event) = stepOf b event .book
+bookBy b (Refused why) = b
+
+-- after rows, in their order
+unfoldable pub bookAfter : Book → List (List ℕ) → Book
+bookAfter b [] = b
+bookAfter b (row ∷ rows) = bookAfter (bookBy b (rowOf row)) rows
+
+-- the lines of row number n, where b is the book before it
+unfoldable pub linesBy : ℕ → Book → Row → List ℕ
+linesBy n b (Accepted event) = reportOf n (b .series) (stepOf b event)
+linesBy n b (Refused why) = answerLine n Nothing (number why)
