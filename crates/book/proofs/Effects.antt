@@ -23,7 +23,7 @@ use Rattle.series.specs.declared.state.Listing.{Listing}
 use Rattle.series.specs.declared.state.Mark as mark-of
 use Rattle.series.specs.declared.state.Series.{Series}
 use Rattle.book.specs.State.{noMoney, noSeries, noTrade, seriesAt, tradeAt, withSeries, nextRecord}
-use Rattle.book.specs.Effects.{effectIn, effectBy, effectOf, Fits, positionsBy, requestsBy, refusalsBy, markBy, recordBy, tradesBy, answerBy, stepBy}
+use Rattle.book.specs.Effects.{effectIn, byVerdict, effectOf, Fits, positionsBy, requestsBy, refusalsBy, markBy, recordBy, tradesBy, answerBy, stepBy}
 use Rattle.book.specs.Step.{stepOf, outcome, carriedOut, refused, done, withTrade}
 use Rattle.book.specs.Verdicts.{seriesOf, onSeries, verdictOf, verdictAt}
 use Rattle.book.specs.declared.state.Answer.{Answer}
@@ -37,13 +37,13 @@ use Rattle.book.specs.declared.state.Step.{Step}
 use Rattle.book.proofs.Allowed.{allowed-trade, allowed-exercise, allowed-decline}
 
 -- ---- an effect by its verdict, as the code's tests find it
-module _ (l : Listing) (e : Event) {r : Effect} {v : Verdict} where
-  pub effect-refused : {why : Refusal} → r ≡ effect.Refused why → verdict.Refused why ≡ v → r ≡ effectBy l e v
-  unfolding effectBy
+module _ (f : Effect) {r : Effect} {v : Verdict} where
+  pub effect-refused : {why : Refusal} → r ≡ effect.Refused why → verdict.Refused why ≡ v → r ≡ byVerdict f v
+  unfolding byVerdict
   effect-refused q h = rw (← h) q
 
-  pub effect-allowed : r ≡ effectIn l e → verdict.Allowed ≡ v → r ≡ effectBy l e v
-  unfolding effectBy
+  pub effect-allowed : r ≡ f → verdict.Allowed ≡ v → r ≡ byVerdict f v
+  unfolding byVerdict
   effect-allowed q h = rw (← h) q
 
 -- a series with this listing and these positions, all else nothing: the conditions of an event ask for no more
@@ -135,8 +135,8 @@ module _ (b : Book) (i k : ℕ) where
       }
 
   by-verdict : (e : Event) → (verdictOf b e ≡ verdict.Allowed → carriedOut b e ≡ stepBy b i k (effectIn (seriesAt b i .listing) e))
-      → (v : Verdict) → verdictOf b e ≡ v → outcome b e v ≡ stepBy b i k (effectBy (seriesAt b i .listing) e v)
-  unfolding outcome effectBy
+      → (v : Verdict) → verdictOf b e ≡ v → outcome b e v ≡ stepBy b i k (byVerdict (effectIn (seriesAt b i .listing) e) v)
+  unfolding outcome byVerdict
   by-verdict e f verdict.Allowed q = f q
   by-verdict e f (verdict.Refused why) q = refused-stored why
 
@@ -157,10 +157,10 @@ step-by-effect b k n Intraday lt = absurd (omega arith)
 step-by-effect b k n Evening lt = absurd (omega arith)
 
 -- ---- its accounts and quantities
-fits-by : (l : Listing) (e : Event) (v : Verdict) → (v ≡ verdict.Allowed → Fits (effectIn l e)) → Fits (effectBy l e v)
-unfolding effectBy Fits
-fits-by l e verdict.Allowed h = h refl
-fits-by l e (verdict.Refused why) h = omega arith
+fits-by : (f : Effect) (v : Verdict) → (v ≡ verdict.Allowed → Fits f) → Fits (byVerdict f v)
+unfolding byVerdict Fits
+fits-by f verdict.Allowed h = h refl
+fits-by f (verdict.Refused why) h = omega arith
 
 fits-in : (b : Book) (e : Event) → verdictAt b (seriesOf e) e ≡ verdict.Allowed → Fits (effectIn (seriesAt b (seriesOf e) .listing) e)
 unfolding Fits
@@ -175,7 +175,7 @@ fits-in b Evening h = omega arith
 -- ---- the same as code makes it, which has the numbers of the series and of the record, and the effect, from calls
 module _ (b : Book) (e : Event) (i : ℕ) (p : i ≡ seriesOf e) (f : Effect) (h : f ≡ effectAt b i e) where
   pub effect-fits : Fits f
-  effect-fits = rw (h, p) (fits-by _ e _ (fits-in b e))
+  effect-fits = rw (h, p) (fits-by _ _ (fits-in b e))
 
   effect-stored : (k : ℕ) → k ≡ nextRecord (b .trades) → i < seriesRoom → stepBy b i k f ≡ stepOf b e
   effect-stored k n lt = rw (h, p) (sym (step-by-effect b k n e (rw (← p) lt)))

@@ -18,10 +18,12 @@ ghost use mathlib.Core.Path.{_≡_};
 ghost use Prim.Native.Nat.{_<_};
 ghost use Rattle.integer.specs.Bounds.{Bounded};
 ghost use Rattle.terms.specs.Bounds.{maxPosition};
-ghost use Rattle.series.specs.Verdicts.{declineVerdict, markVerdict};
+ghost use Rattle.series.specs.Changes.{markOf};
+ghost use Rattle.series.specs.Refusals.{_then_};
+ghost use Rattle.series.specs.Verdicts.{tradeVerdict, exerciseVerdict, declineVerdict, markVerdict};
 ghost use Rattle.book.specs.Effects as rule;
-ghost use Rattle.book.specs.Verdicts.{seriesOf};
-ghost use Rattle.book.specs.declared.state.Event as happening;
+ghost use Rattle.book.specs.Verdicts.{seriesOf, blotterVerdict};
+ghost use Rattle.book.specs.declared.state.Effect.the-variants.{Traded, Requested, Declined, Marked};
 
 // The number of the series that an event is on; for an event on none it is past every series.
 pub fn series_of(event: Event) -> usize
@@ -50,7 +52,7 @@ fn trade(
     price: u64,
 ) -> Effect
     requires { ⌜ 0 < listing .tick ⌝ }
-    ensures { λ r. ⌜ r ≡ rule.effectOwn day trades listing (now (positions .entry)) (happening.Event.Trade series buyer seller quantity price) ⌝ }
+    ensures { λ r. ⌜ r ≡ rule.byVerdict (Traded (record { series = series; buyer = buyer; seller = seller; quantity = quantity; price = price })) (tradeVerdict listing (now (positions .entry)) day buyer seller quantity price then blotterVerdict trades) ⌝ }
 {
     if let Verdict::Refused(why) = trade_verdict(
         listing,
@@ -80,13 +82,11 @@ fn exercise(
     listing: Listing,
     positions: &[i32; PLACES],
     day: u32,
-    trades: usize,
-    series: u8,
     account: u8,
     quantity: u64,
 ) -> Effect
     requires { ⌜ Bounded maxPosition (now positions) ⌝ }
-    ensures { λ r. ⌜ r ≡ rule.effectOwn day trades listing (now (positions .entry)) (happening.Event.Exercise series account quantity) ⌝ }
+    ensures { λ r. ⌜ r ≡ rule.byVerdict (Requested account quantity) (exerciseVerdict listing (now (positions .entry)) day account quantity) ⌝ }
 {
     if let Verdict::Refused(why) = exercise_verdict(listing, positions, day, account, quantity) {
         return Effect::Refused(why);
@@ -97,8 +97,8 @@ fn exercise(
     }
 }
 
-fn decline(listing: Listing, day: u32, series: u8, account: u8) -> Effect
-    ensures { λ r. ⌜ r ≡ rule.effectBy listing (happening.Event.Decline series account) (declineVerdict listing day account) ⌝ }
+fn decline(listing: Listing, day: u32, account: u8) -> Effect
+    ensures { λ r. ⌜ r ≡ rule.byVerdict (Declined account) (declineVerdict listing day account) ⌝ }
 {
     if let Verdict::Refused(why) = decline_verdict(listing, day, account) {
         return Effect::Refused(why);
@@ -106,8 +106,8 @@ fn decline(listing: Listing, day: u32, series: u8, account: u8) -> Effect
     Effect::Declined { account: account }
 }
 
-fn mark(listing: Listing, day: u32, series: u8, option: u64, future: u64, tick_value: u64) -> Effect
-    ensures { λ r. ⌜ r ≡ rule.effectBy listing (happening.Event.Mark series option future «tick_value») (markVerdict listing day option future «tick_value») ⌝ }
+fn mark(listing: Listing, day: u32, option: u64, future: u64, tick_value: u64) -> Effect
+    ensures { λ r. ⌜ r ≡ rule.byVerdict (Marked (markOf (listing .tick) option future «tick_value»)) (markVerdict listing day option future «tick_value») ⌝ }
 {
     if let Verdict::Refused(why) = mark_verdict(listing, day, option, future, tick_value) {
         return Effect::Refused(why);
@@ -146,17 +146,17 @@ fn own(listing: Listing, positions: &[i32; PLACES], day: u32, trades: usize, eve
             price,
         ),
         Event::Exercise {
-            series,
             account,
             quantity,
-        } => exercise(listing, positions, day, trades, series, account, quantity),
-        Event::Decline { series, account } => decline(listing, day, series, account),
+            ..
+        } => exercise(listing, positions, day, account, quantity),
+        Event::Decline { account, .. } => decline(listing, day, account),
         Event::Mark {
-            series,
             option,
             future,
             tick_value,
-        } => mark(listing, day, series, option, future, tick_value),
+            ..
+        } => mark(listing, day, option, future, tick_value),
         Event::Intraday => Effect::Refused(Refusal::UnknownSeries),
         Event::Evening => Effect::Refused(Refusal::UnknownSeries),
     }

@@ -1,18 +1,10 @@
 -- `effect::decline` meets its contract: the effect by the verdict of the series.
 use mathlib.Core.Path.{refl}
-use Rattle.book.specs.declared.state.Event.{Event}
-use Rattle.book.specs.declared.state.Event.the-variants.{Decline}
 use Rattle.book.proofs.Effects.{effect-refused, effect-allowed}
 use Rattle.book.proofs.Outcome.{verdict-is}
 use borrow.Author.Needs.{needs}
 use Rattle.book.proofs.effect.decline.Statement.{statement}
 use Rattle.book.proofs.effect.decline.Tie as tie
-
-abbrev event : tie.Start → Event
-event c = Decline (c .args .series) (c .args .account)
-
-abbrev start : tie.After-enum-told → tie.Start
-start c = c .before .before .before
 
 decline-verdict-requires : tie.Need-decline-verdict-requires
 decline-verdict-requires c κs = search needs
@@ -21,13 +13,13 @@ enum-known-why : tie.Need-enum-known-why
 enum-known-why c = search needs
 
 returns : tie.Need-returns
-returns c = effect-refused _ (event (c .before .before .before .before)) refl (verdict-is (c .before .before .before .decline-verdict .ensures) (c .before .why .given .1))
+returns c = effect-refused _ refl (verdict-is (c .before .before .before .decline-verdict .ensures) (c .before .why .given .1))
 
 enum-told : tie.Need-enum-told
 enum-told c = search needs
 
 returns-2 : tie.Need-returns-2
-returns-2 c = effect-allowed _ (event (start c)) refl (verdict-is (c .before .before .decline-verdict .ensures) (c .enum-told .given .1))
+returns-2 c = effect-allowed _ refl (verdict-is (c .before .before .decline-verdict .ensures) (c .enum-told .given .1))
 
 pub decline-spec : {M : Type 1} → statement M
 decline-spec =

@@ -5,16 +5,11 @@ use Rattle.integer.specs.Absolute.{abs-parts}
 use Rattle.series.specs.Series.{positionIn}
 use Rattle.series.specs.declared.state.Series.{Series}
 use Rattle.series.proofs.Allowed.{RequestAllowed, exercise-allowed}
-use Rattle.book.specs.declared.state.Event.{Event}
-use Rattle.book.specs.declared.state.Event.the-variants.{Exercise}
 use Rattle.book.proofs.Effects.{effect-refused, effect-allowed, seriesWith}
 use Rattle.book.proofs.Outcome.{verdict-is}
 use borrow.Author.Needs.{needs}
 use Rattle.book.proofs.effect.exercise.Statement.{statement}
 use Rattle.book.proofs.effect.exercise.Tie as tie
-
-abbrev event : tie.Start → Event
-event c = Exercise (c .args .series) (c .args .account) (c .args .quantity)
 
 abbrev start : tie.After-enum-told → tie.Start
 start c = c .before .before .before
@@ -33,20 +28,20 @@ enum-known-why : tie.Need-enum-known-why
 enum-known-why c = search needs
 
 returns : tie.Need-returns
-returns c = effect-refused _ (event (c .before .before .before .before)) refl (verdict-is (c .before .before .before .exercise-verdict .ensures) (c .before .why .given .1))
+returns c = effect-refused _ refl (verdict-is (c .before .before .before .exercise-verdict .ensures) (c .before .why .given .1))
 
 enum-told : tie.Need-enum-told
 enum-told c = search needs
 
-cast-t10 : tie.Need-cast-t10
-cast-t10 c =
+cast-t8 : tie.Need-cast-t8
+cast-t8 c =
     let s = start c in
     omega (arith, allowed c .held, abs-parts (positionIn (s .args .positions .now) (s .args .account)), s .pre .each (s .args .account) .abs)
 
 returns-2 : tie.Need-returns-2
-returns-2 c = effect-allowed _ (event (start c)) refl (verdict-is (c .before .before .exercise-verdict .ensures) (c .enum-told .given .1))
+returns-2 c = effect-allowed _ refl (verdict-is (c .before .before .exercise-verdict .ensures) (c .enum-told .given .1))
 
 pub exercise-spec : {M : Type 1} → statement M
 exercise-spec =
     tie.close
-    (tie.spec exercise-verdict-requires enum-known-why returns enum-told cast-t10 returns-2)
+    (tie.spec exercise-verdict-requires enum-known-why returns enum-told cast-t8 returns-2)

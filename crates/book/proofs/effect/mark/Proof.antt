@@ -5,16 +5,11 @@ use mathlib.Core.List.{[]}
 use Rattle.series.specs.declared.state.Series.{Series}
 use Rattle.series.proofs.Allowed.{MarkAllowed, mark-allowed}
 use Rattle.book.specs.declared.state.Effect.the-variants.{Marked}
-use Rattle.book.specs.declared.state.Event.{Event}
-use Rattle.book.specs.declared.state.Event.the-variants.{Mark}
 use Rattle.book.proofs.Effects.{effect-refused, effect-allowed, seriesWith}
 use Rattle.book.proofs.Outcome.{verdict-is}
 use borrow.Author.Needs.{needs}
 use Rattle.book.proofs.effect.mark.Statement.{statement}
 use Rattle.book.proofs.effect.mark.Tie as tie
-
-abbrev event : tie.Start → Event
-event c = Mark (c .args .series) (c .args .option) (c .args .future) (c .args .tick-value)
 
 abbrev start : tie.After-enum-told → tie.Start
 start c = c .before .before .before
@@ -33,7 +28,7 @@ enum-known-why : tie.Need-enum-known-why
 enum-known-why c = search needs
 
 returns : tie.Need-returns
-returns c = effect-refused _ (event (c .before .before .before .before)) refl (verdict-is (c .before .before .before .mark-verdict .ensures) (c .before .why .given .1))
+returns c = effect-refused _ refl (verdict-is (c .before .before .before .mark-verdict .ensures) (c .before .why .given .1))
 
 enum-told : tie.Need-enum-told
 enum-told c = search needs
@@ -51,7 +46,7 @@ mark-requires : tie.Need-mark-requires
 mark-requires c κs = allowed c .coefficient
 
 returns-2 : tie.Need-returns-2
-returns-2 c = effect-allowed _ (event (start (c .before))) (ap Marked (c .mark .ensures)) (verdict-is (c .before .before .before .mark-verdict .ensures) (c .before .enum-told .given .1))
+returns-2 c = effect-allowed _ (ap Marked (c .mark .ensures)) (verdict-is (c .before .before .before .mark-verdict .ensures) (c .before .enum-told .given .1))
 
 pub mark-spec : {M : Type 1} → statement M
 mark-spec =

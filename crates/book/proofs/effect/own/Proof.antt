@@ -49,7 +49,7 @@ enum-told-3 : tie.Need-enum-told-3
 enum-told-3 c = search needs
 
 returns : tie.Need-returns
-returns c = matched (c .before .before) _ _ (effect-refused _ _ refl refl) (c .enum-told .given .1)
+returns c = matched (c .before .before) _ _ (effect-refused _ refl refl) (c .enum-told .given .1)
 
 returns-2 : tie.Need-returns-2
 returns-2 c = matched (c .before .before .before .before) _ _ (c .trade .ensures) (c .before .before .event .given .1)
@@ -64,10 +64,10 @@ returns-5 : tie.Need-returns-5
 returns-5 c = matched (c .before .before .before .before) _ _ (c .mark .ensures) (c .before .before .event4 .given .1)
 
 returns-6 : tie.Need-returns-6
-returns-6 c = matched (c .before .before) _ _ (effect-refused _ _ refl refl) (c .enum-told2 .given .1)
+returns-6 c = matched (c .before .before) _ _ (effect-refused _ refl refl) (c .enum-told2 .given .1)
 
 returns-7 : tie.Need-returns-7
-returns-7 c = matched (c .before .before) _ _ (effect-refused _ _ refl refl) (c .enum-told3 .given .1)
+returns-7 c = matched (c .before .before) _ _ (effect-refused _ refl refl) (c .enum-told3 .given .1)
 
 pub own-spec : {M : Type 1} → statement M
 own-spec =

@@ -4,16 +4,11 @@ use native.Mathlib.Omega.{arith}
 use Rattle.choice.specs.Choice.{hit, past, tests}
 use Rattle.series.specs.declared.state.Series.{Series}
 use Rattle.series.proofs.Allowed.{TradeAllowed, trade-allowed}
-use Rattle.book.specs.declared.state.Event.{Event}
-use Rattle.book.specs.declared.state.Event.the-variants.{Trade}
 use Rattle.book.proofs.Effects.{effect-refused, effect-allowed, seriesWith}
 use Rattle.book.proofs.Outcome.{then-refused, then-allowed, verdict-is}
 use borrow.Author.Needs.{needs}
 use Rattle.book.proofs.effect.trade.Statement.{statement}
 use Rattle.book.proofs.effect.trade.Tie as tie
-
-abbrev event : tie.Start → Event
-event c = Trade (c .args .series) (c .args .buyer) (c .args .seller) (c .args .quantity) (c .args .price)
 
 abbrev start : tie.After-enum-told → tie.Start
 start c = c .before .before .before
@@ -32,7 +27,7 @@ enum-known-why : tie.Need-enum-known-why
 enum-known-why c = search needs
 
 returns : tie.Need-returns
-returns c = effect-refused _ (event (c .before .before .before .before)) refl (then-refused _ (verdict-is (c .before .before .before .trade-verdict .ensures) (c .before .why .given .1)))
+returns c = effect-refused _ refl (then-refused _ (verdict-is (c .before .before .before .trade-verdict .ensures) (c .before .why .given .1)))
 
 enum-told : tie.Need-enum-told
 enum-told c = search needs
@@ -40,7 +35,7 @@ enum-told c = search needs
 returns-2 : tie.Need-returns-2
 returns-2 c =
     let t = c .before in
-    effect-refused _ (event (start t)) refl (then-allowed (verdict-is (t .before .before .trade-verdict .ensures) (t .enum-told .given .1)) (search (hit, past, tests)))
+    effect-refused _ refl (then-allowed (verdict-is (t .before .before .trade-verdict .ensures) (t .enum-told .given .1)) (search (hit, past, tests)))
 
 cast-t15 : tie.Need-cast-t15
 cast-t15 c = omega (arith, allowed (c .before) .most)
@@ -51,7 +46,7 @@ cast-t16 c = omega (arith, allowed (c .before) .price)
 returns-3 : tie.Need-returns-3
 returns-3 c =
     let t = c .before in
-    effect-allowed _ (event (start t)) refl (then-allowed (verdict-is (t .before .before .trade-verdict .ensures) (t .enum-told .given .1)) (search (hit, past, tests)))
+    effect-allowed _ refl (then-allowed (verdict-is (t .before .before .trade-verdict .ensures) (t .enum-told .given .1)) (search (hit, past, tests)))
 
 pub trade-spec : {M : Type 1} → statement M
 trade-spec =
