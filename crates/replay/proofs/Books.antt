@@ -1,7 +1,8 @@
 -- The book row by row.
-use mathlib.Core.Path.{_≡_, refl, sym, ap}
+use mathlib.Core.Path.{_≡_, refl, sym, ap, _∙_}
 use mathlib.Core.List.{List, [], _∷_}
-use Prim.Native.Nat.{ℕ, _+_, _-_, _<_}
+use Prim.Native.Nat.{ℕ, suc, _+_, _-_, _%_, _^_, _<_}
+use native.Mathlib.Nat.{add-zero}
 use native.Mathlib.Omega.{arith}
 use lib.ListN.{length, take, drop}
 use Rattle.book.specs.Step.{stepOf}
@@ -17,7 +18,7 @@ use Rattle.rows.specs.declared.types.Refusal.{Refusal}
 use Rattle.rows.specs.declared.types.Row.{Row}
 use Rattle.rows.specs.declared.types.Row.the-variants.{Accepted, Refused}
 use Rattle.rows.proofs.Ends.{next-row, no-row}
-use Rattle.replay.specs.Rows.{bookBy, bookAfter, linesBy}
+use Rattle.replay.specs.Rows.{bookBy, bookAfter, numberAfter, linesBy}
 
 -- a row by what the reader made of it
 module _ (b : Book) {row : Row} where
@@ -47,6 +48,17 @@ module _ (s : List ℕ) (from : ℕ) {r : End} (p : r ≡ endFrom s from) (b : B
   pub after-none : r ≡ NoEnd → bookAfter b (cut (drop from s) .rows) ≡ b
   unfolding bookAfter
   after-none q = ap (λ (k : Cut). bookAfter b (k .rows)) (no-row s from r p q)
+
+-- one row more is counted in 64 bits
+one-more : (n m : ℕ) → (n + suc m) % 2 ^ 64 ≡ ((n + 1) % 2 ^ 64 + m) % 2 ^ 64
+one-more n m = omega arith
+
+module _ (s : List ℕ) (from : ℕ) {r : End} (p : r ≡ endFrom s from) (n : ℕ) where
+  pub number-next : (end : ℕ) → r ≡ At end → numberAfter n (cut (drop from s) .rows) ≡ numberAfter ((n + 1) % 2 ^ 64) (cut (drop (end + 2) s) .rows)
+  number-next end q = ap (λ (k : Cut). numberAfter n (k .rows)) (next-row s from r p end q) ∙ one-more n (length (cut (drop (end + 2) s) .rows))
+
+  pub number-none : r ≡ NoEnd → numberAfter n (cut (drop from s) .rows) ≡ n % 2 ^ 64
+  number-none q = ap (λ (k : Cut). numberAfter n (k .rows)) (no-row s from r p q) ∙ ap (λ (m : ℕ). m % 2 ^ 64) (add-zero n)
 
 -- the row that the input's end leaves, if any
 pub last-none : (b : Book) (s : List ℕ) (n : ℕ) → n ≡ 0 → b ≡ bookAfter b (lastRow (take n s))

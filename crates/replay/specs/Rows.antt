@@ -1,6 +1,7 @@
 -- What rows do to the book, and the lines that answer them (01, "Rows").
 use mathlib.Core.List.{List, [], _∷_}
-use Prim.Native.Nat.{ℕ}
+use Prim.Native.Nat.{ℕ, _+_, _%_, _^_}
+use lib.ListN.{length}
 use Rattle.book.specs.Step.{stepOf}
 use Rattle.book.specs.declared.state.Book.{Book}
 use Rattle.book.specs.declared.state.Found.the-variants.{Nothing}
@@ -18,6 +19,10 @@ bookBy b (Refused why) = b
 unfoldable pub bookAfter : Book → List (List ℕ) → Book
 bookAfter b [] = b
 bookAfter b (row ∷ rows) = bookAfter (bookBy b (rowOf row)) rows
+
+-- the number of the last of some rows, where n is that of the row before them: 64 bits hold it
+abbrev pub numberAfter : ℕ → List (List ℕ) → ℕ
+numberAfter n rows = (n + length rows) % 2 ^ 64
 
 -- the lines of row number n, where b is the book before it
 unfoldable pub linesBy : ℕ → Book → Row → List ℕ

@@ -21,7 +21,7 @@ ghost use Rattle.decimal.specs.Put.{Put};
 ghost use Rattle.report.specs.Report.{isSession, reportOf};
 ghost use Rattle.rows.specs.Cut.{cut};
 ghost use Rattle.rows.specs.Row.{rowOf};
-ghost use Rattle.replay.specs.Rows.{bookBy, bookAfter, linesBy};
+ghost use Rattle.replay.specs.Rows.{bookBy, bookAfter, numberAfter, linesBy};
 
 // The book, the rows answered so far, and the bytes of output that wait to be written.
 pub struct Replay {
@@ -38,7 +38,7 @@ pub struct Passed {
 
 // The replay up to a place of its buffer.
 fn up_to(book: Book, row: u64, at: usize, from: usize) -> Passed
-    ensures { λ r. ⌜ (r .replay .book ≡ book) × (r .replay .at ≡ at) × (r .from ≡ from) ⌝ }
+    ensures { λ r. ⌜ (r .replay .book ≡ book) × (r .replay .at ≡ at) × (r .from ≡ from) × (r .replay .row ≡ row) ⌝ }
 {
     Passed {
         replay: Replay {
@@ -138,7 +138,7 @@ pub fn flushed(out: &mut [u8], at: usize) -> usize
 // row changes one series of it, and the blotter.
 fn series_rows(input: &[u8], start: usize, out: &mut [u8], replay: Replay) -> Passed
     requires { ⌜ (Good (replay .book)) × (replay .at ≤ 28608) × (65536 ≤ length (now out)) × (start ≤ length (now input)) ⌝ }
-    ensures { λ r. ⌜ (Good (r .replay .book)) × (r .replay .at ≤ 28608) × (start ≤ r .from) × (r .from ≤ length (now (input .entry))) × (bookAfter (replay .book) (cut (drop start (now (input .entry))) .rows) ≡ bookAfter (r .replay .book) (cut (drop (r .from) (now (input .entry))) .rows)) ⌝ }
+    ensures { λ r. ⌜ (Good (r .replay .book)) × (r .replay .at ≤ 28608) × (start ≤ r .from) × (r .from ≤ length (now (input .entry))) × (bookAfter (replay .book) (cut (drop start (now (input .entry))) .rows) ≡ bookAfter (r .replay .book) (cut (drop (r .from) (now (input .entry))) .rows)) × (numberAfter (replay .row) (cut (drop start (now (input .entry))) .rows) ≡ numberAfter (r .replay .row) (cut (drop (r .from) (now (input .entry))) .rows)) ⌝ }
 {
     let mut book = replay.book;
     let mut row = replay.row;
@@ -188,7 +188,7 @@ fn series_rows(input: &[u8], start: usize, out: &mut [u8], replay: Replay) -> Pa
 // The rows of a buffer that end in it.
 pub fn whole_rows(input: &[u8], out: &mut [u8], replay: Replay) -> Passed
     requires { ⌜ (Good (replay .book)) × (replay .at ≤ 28608) × (65536 ≤ length (now out)) ⌝ }
-    ensures { λ r. ⌜ (Good (r .replay .book)) × (r .replay .at ≤ 28608) × (r .from ≤ length (now (input .entry))) × (r .replay .book ≡ bookAfter (replay .book) (cut (now (input .entry)) .rows)) × (cut (drop (r .from) (now (input .entry))) .rows ≡ []) ⌝ }
+    ensures { λ r. ⌜ (Good (r .replay .book)) × (r .replay .at ≤ 28608) × (r .from ≤ length (now (input .entry))) × (r .replay .book ≡ bookAfter (replay .book) (cut (now (input .entry)) .rows)) × (cut (drop (r .from) (now (input .entry))) .rows ≡ []) × (r .replay .row % 2 ^ 64 ≡ numberAfter (replay .row) (cut (now (input .entry)) .rows)) ⌝ }
 {
     let mut now = replay;
     let mut from = 0;

@@ -16,9 +16,9 @@ use Rattle.book.proofs.Keeps.{good-step}
 use Rattle.book.proofs.Effects.{next-record-within, effect-fits, step-stored}
 use Rattle.rows.specs.Cut.{cut}
 use Rattle.rows.proofs.Ends.{end-fits}
-use Rattle.replay.specs.Rows.{bookAfter}
+use Rattle.replay.specs.Rows.{bookAfter, numberAfter}
 use Rattle.replay.specs.declared.row.Passed.{Passed}
-use Rattle.replay.proofs.Books.{book-accepted, after-next}
+use Rattle.replay.proofs.Books.{book-accepted, after-next, number-next}
 use Rattle.replay.proofs.row.series_rows.Statement.{statement}
 use Rattle.replay.proofs.row.series_rows.Tie as tie
 
@@ -26,6 +26,7 @@ abbrev Inv-loop : tie.InvT-loop
 Inv-loop input start out₀ book₀ row₀ at₀ from₀ out book row at from =
     (Good book) × (at ≤ 28608) × (start ≤ from) × (from ≤ length input) × (length out ≡ length out₀)
     × (bookAfter book₀ (cut (drop start input) .rows) ≡ bookAfter book (cut (drop from input) .rows))
+    × (numberAfter row₀ (cut (drop start input) .rows) ≡ numberAfter row (cut (drop from input) .rows))
 
 abbrev μ-loop : tie.MeasureT-loop
 μ-loop input start out₀ book₀ row₀ at₀ from₀ out book row at from = length input - from
@@ -48,12 +49,14 @@ module _ (c : tie.After-known-told Inv-loop μ-loop) where
       (f .0, omega (arith, simp length-drop at (f .1), top .loop .inv .3))
 
 -- what is returned from a turn of the loop
-passed : (l : tie.At-loop Inv-loop μ-loop) (r : Passed) → (r .replay .book ≡ l .loop .book) × (r .replay .at ≡ l .loop .at) × (r .from ≡ l .loop .from)
+passed : (l : tie.At-loop Inv-loop μ-loop) (r : Passed) → (r .replay .book ≡ l .loop .book) × (r .replay .at ≡ l .loop .at) × (r .from ≡ l .loop .from) × (r .replay .row ≡ l .loop .row)
     → (Good (r .replay .book)) × (r .replay .at ≤ 28608) × (l .before .before .before .before .args .start ≤ r .from) × (r .from ≤ length (l .before .before .before .before .args .input .now))
     × (bookAfter (l .before .before .before .before .args .replay .book) (cut (drop (l .before .before .before .before .args .start) (l .before .before .before .before .args .input .now)) .rows)
     ≡ bookAfter (r .replay .book) (cut (drop (r .from) (l .before .before .before .before .args .input .now)) .rows))
+    × (numberAfter (l .before .before .before .before .args .replay .row) (cut (drop (l .before .before .before .before .args .start) (l .before .before .before .before .args .input .now)) .rows)
+      ≡ numberAfter (r .replay .row) (cut (drop (r .from) (l .before .before .before .before .args .input .now)) .rows))
 passed l r p =
-    (rw (p .0) (l .loop .inv .0), omega (arith, p .1, l .loop .inv .1), omega (arith, p .2, l .loop .inv .2), omega (arith, p .2, l .loop .inv .3), rw (p .0, p .2) (l .loop .inv .5))
+    (rw (p .0) (l .loop .inv .0), omega (arith, p .1, l .loop .inv .1), omega (arith, p .2, l .loop .inv .2), omega (arith, p .2, l .loop .inv .3), rw (p .0, p .2) (l .loop .inv .5), rw (p .3, p .2) (l .loop .inv .6))
 
 -- the effect of a row's event, the row, and the turn of the loop
 module _ (f : tie.After-effect Inv-loop μ-loop) where
@@ -88,7 +91,7 @@ answer-of c = c .before .before .before .before .before .before .before .before 
 loop-holds : tie.Need-loop-holds Inv-loop μ-loop
 loop-holds c =
     let s = c .before .before .before in
-    (s .pre .0, s .pre .1, omega arith, s .pre .3, refl, refl)
+    (s .pre .0, s .pre .1, omega arith, s .pre .3, refl, refl, refl)
 
 row-end-requires : tie.Need-row-end-requires Inv-loop μ-loop
 row-end-requires c κs = search needs
@@ -250,6 +253,9 @@ loop-again c =
       l .inv .5 ∙ after-next _ _ (row-of f .before .before .before .row-end .ensures) (l .book) _ (row-of f .before .end .given .1)
           ∙ ap (λ (x : Book). bookAfter x (cut (drop (row-of f .before .end .given .0 .0 + 2) (input (row-of f))) .rows))
           (sym (book-accepted (l .book) (sym (f .before .before .before .before .before .before .before .before .before .before .read-row .ensures) ∙ f .before .before .before .before .before .before .before .before .event .given .1)) ∙ ap (λ (x : Step). x .book) (sym s)),
+      l .inv .6 ∙ number-next _ _ (row-of f .before .before .before .row-end .ensures) (l .row) _ (row-of f .before .end .given .1)
+          ∙ ap (λ (n : ℕ). numberAfter n (cut (drop (row-of f .before .end .given .0 .0 + 2) (input (row-of f))) .rows))
+          (sym (c .before .before .before .before .before .before .before .before .wrapping-add-u64 .ensures)),
     )
 
 pub series-rows-spec : {M : Type 1} → statement M
