@@ -69,3 +69,12 @@ pub last-some : (b : Book) (s : List ℕ) → 0 < length s → bookBy b (rowOf s
 unfolding bookAfter lastRow
 last-some b [] h = absurd (omega arith)
 last-some b (x ∷ s) h = refl
+
+pub last-number-none : (n : ℕ) (s : List ℕ) (k : ℕ) → k ≡ 0 → n % 2 ^ 64 ≡ numberAfter n (lastRow (take k s))
+unfolding lastRow
+last-number-none n s k q = rw q (ap (λ (m : ℕ). m % 2 ^ 64) (sym (add-zero n)))
+
+pub last-number-some : (n : ℕ) (s : List ℕ) → 0 < length s → (n + 1) % 2 ^ 64 % 2 ^ 64 ≡ numberAfter n (lastRow s)
+unfolding lastRow
+last-number-some n [] h = absurd (omega arith)
+last-number-some n (x ∷ s) h = omega arith

@@ -8,13 +8,13 @@ use row::answer_row;
 use row::flushed;
 use row::whole_rows;
 use rows::cut;
-ghost use Prim.Native.Nat.{_+_, _≤_, _<_};
+ghost use Prim.Native.Nat.{_%_, _^_, _≤_};
 ghost use mathlib.Core.Path.{_≡_};
 ghost use lib.ListN.{length, take};
 ghost use Rattle.book.specs.Good.{Good};
 ghost use Rattle.rows.specs.Cut.{cut, lastRow};
 ghost use Rattle.replay.specs.Input.{Within};
-ghost use Rattle.replay.specs.Rows.{bookAfter};
+ghost use Rattle.replay.specs.Rows.{bookAfter, numberAfter};
 
 // What a read gave: input up to a place of the buffer, its end, or an error.
 pub enum Input {
@@ -58,7 +58,7 @@ pub struct Run {
 // The rows that end in the buffer, whose input goes up to a place.
 fn pass(buf: &mut [u8], out: &mut [u8], replay: Replay, end: usize) -> Run
     requires { ⌜ (Good (replay .book)) × (replay .at ≤ 28608) × (65536 ≤ length (now out)) × (end ≤ length (now buf)) ⌝ }
-    ensures { λ r. ⌜ (Good (r .replay .book)) × (r .replay .at ≤ 28608) × (r .have ≤ length (now (buf .entry))) × (r .replay .book ≡ bookAfter (replay .book) (cut (take end (now (buf .entry))) .rows)) ⌝ }
+    ensures { λ r. ⌜ (Good (r .replay .book)) × (r .replay .at ≤ 28608) × (r .have ≤ length (now (buf .entry))) × (r .replay .book ≡ bookAfter (replay .book) (cut (take end (now (buf .entry))) .rows)) × (r .replay .row % 2 ^ 64 ≡ numberAfter (replay .row) (cut (take end (now (buf .entry))) .rows)) ⌝ }
 {
     let passed = whole_rows(&buf[..end], out, replay);
     let left = keep(buf, passed.from, end);
@@ -73,7 +73,7 @@ fn pass(buf: &mut [u8], out: &mut [u8], replay: Replay, end: usize) -> Run
 // The end of the input: what it left without CRLF is a row.
 fn last_row(buf: &[u8], out: &mut [u8], replay: Replay, have: usize) -> Run
     requires { ⌜ (Good (replay .book)) × (replay .at ≤ 28608) × (65536 ≤ length (now out)) × (have ≤ length (now buf)) ⌝ }
-    ensures { λ r. ⌜ (Good (r .replay .book)) × (r .replay .at ≤ 28608) × (r .have ≤ 0) × (r .replay .book ≡ bookAfter (replay .book) (lastRow (take have (now (buf .entry))))) ⌝ }
+    ensures { λ r. ⌜ (Good (r .replay .book)) × (r .replay .at ≤ 28608) × (r .have ≤ 0) × (r .replay .book ≡ bookAfter (replay .book) (lastRow (take have (now (buf .entry))))) × (r .replay .row % 2 ^ 64 ≡ numberAfter (replay .row) (lastRow (take have (now (buf .entry))))) ⌝ }
 {
     if have == 0 {
         return Run {

@@ -54,7 +54,7 @@ passed : (l : tie.At-loop Inv-loop μ-loop) (r : Passed) → (r .replay .book �
     × (bookAfter (l .before .before .before .before .args .replay .book) (cut (drop (l .before .before .before .before .args .start) (l .before .before .before .before .args .input .now)) .rows)
     ≡ bookAfter (r .replay .book) (cut (drop (r .from) (l .before .before .before .before .args .input .now)) .rows))
     × (numberAfter (l .before .before .before .before .args .replay .row) (cut (drop (l .before .before .before .before .args .start) (l .before .before .before .before .args .input .now)) .rows)
-      ≡ numberAfter (r .replay .row) (cut (drop (r .from) (l .before .before .before .before .args .input .now)) .rows))
+    ≡ numberAfter (r .replay .row) (cut (drop (r .from) (l .before .before .before .before .args .input .now)) .rows))
 passed l r p =
     (rw (p .0) (l .loop .inv .0), omega (arith, p .1, l .loop .inv .1), omega (arith, p .2, l .loop .inv .2), omega (arith, p .2, l .loop .inv .3), rw (p .0, p .2) (l .loop .inv .5), rw (p .3, p .2) (l .loop .inv .6))
 
