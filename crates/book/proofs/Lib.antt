@@ -12,11 +12,3 @@ pub mod KeepsEvents
 pub mod KeepsSessions
 pub mod Keeps
 pub mod SessionMoney
-pub mod Values
-pub mod Simulation
-pub mod SimulationEvents
-pub mod SimulationEvening
-pub mod SimulationSteps
-pub mod AlikeLists
-pub mod Demand
-pub mod Witness

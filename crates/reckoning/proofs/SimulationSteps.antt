@@ -2,20 +2,20 @@
 use mathlib.Core.Path.{_≡_, refl}
 use Rattle.series.specs.declared.refusal.Verdict.{Verdict}
 use Rattle.series.specs.declared.refusal.Verdict.the-variants.{Allowed, Refused}
 use Rattle.book.specs.Answers.{carriedOut}
 use Rattle.book.specs.Good.{Good}
-use Rattle.book.specs.Reckoning.{Reckoning, carry, hear}
 use Rattle.book.specs.Step as step
 use Rattle.book.specs.Step.{outcome, stepOf}
 use Rattle.book.specs.Verdicts.{verdictOf}
 use Rattle.book.specs.declared.state.Book.{Book}
 use Rattle.book.specs.declared.state.Event.{Event}
 use Rattle.book.specs.declared.state.Event.the-variants.{List, Trade, Exercise, Decline, Mark, Intraday, Evening}
 use Rattle.book.specs.declared.state.Step.{Step}
 use Rattle.book.proofs.Allowed.{allowed-list, allowed-trade, allowed-exercise, allowed-decline, allowed-mark, allowed-intraday, allowed-evening}
-use Rattle.book.proofs.Simulation.{Sim}
-use Rattle.book.proofs.SimulationEvents.{keeps-list, keeps-trade, keeps-request, keeps-mark, keeps-intraday}
-use Rattle.book.proofs.SimulationEvening.{keeps-evening}
+use Rattle.reckoning.specs.Reckoning.{Reckoning, carry, hear}
+use Rattle.reckoning.proofs.Simulation.{Sim}
+use Rattle.reckoning.proofs.SimulationEvents.{keeps-list, keeps-trade, keeps-request, keeps-mark, keeps-intraday}
+use Rattle.reckoning.proofs.SimulationEvening.{keeps-evening}
 
 -- the book that a step leaves, and the reckoning that has heard of it
 abbrev pub Keeps : Reckoning → Event → Step → Type 0

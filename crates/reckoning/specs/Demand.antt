@@ -11,13 +11,13 @@ use lib.Dec.{T}
 use Rattle.exercise.specs.Places.{places}
 use Rattle.integer.specs.Sum.{sumTo, at}
 use Rattle.terms.specs.Bounds.{accounts, seriesRoom}
 use Rattle.book.specs.Answers.{carriedOut}
-use Rattle.book.specs.Reckoning.{Told, reckon}
 use Rattle.book.specs.State.{emptyBook, seriesAt, position, futures, cash}
 use Rattle.book.specs.Step.{stepOf, run, after}
 use Rattle.book.specs.declared.state.Book.{Book}
 use Rattle.book.specs.declared.state.Event.{Event}
 use Rattle.book.specs.declared.state.Event.the-variants.{List, Trade, Exercise, Decline, Mark, Intraday, Evening}
+use Rattle.reckoning.specs.Reckoning.{Told, reckon}
 
 -- the events es after a book, each with whether it was carried out: all that the reckoning is told
 unfoldable pub toldFrom : Book → list.List Event → list.List Told

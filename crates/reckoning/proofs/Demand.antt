@@ -12,24 +12,24 @@ use Rattle.integer.specs.Table.{table, getD-table}
 use Rattle.series.specs.declared.refusal.Verdict.{Verdict}
 use Rattle.series.specs.declared.refusal.Verdict.the-variants.{Allowed, Refused}
 use Rattle.terms.specs.Bounds.{accounts}
 use Rattle.book.specs.Answers.{carriedOut}
-use Rattle.book.specs.Demand.{toldFrom, told, receivedFrom, received, CarriedOut, upTo, Demand-3}
 use Rattle.book.specs.Good.{Good}
-use Rattle.book.specs.Reckoning.{Reckoning, start, hear, reckonFrom, reckon}
 use Rattle.book.specs.Sessions.{intradayMoney, eveningMoney}
 use Rattle.book.specs.State.{noMoney, emptyBook, position, futures, cash}
 use Rattle.book.specs.Step as step
 use Rattle.book.specs.Step.{outcome, stepOf, run, after}
 use Rattle.book.specs.Verdicts.{verdictOf}
 use Rattle.book.specs.declared.state.Book.{Book}
 use Rattle.book.specs.declared.state.Event.{Event}
 use Rattle.book.specs.declared.state.Event.the-variants.{List, Trade, Exercise, Decline, Mark, Intraday, Evening}
 use Rattle.book.specs.declared.state.Step.{Step}
-use Rattle.book.proofs.AlikeLists.{tail-carried, same-reckoning, same-evening}
 use Rattle.book.proofs.Keeps.{good-step, good-after}
 use Rattle.book.proofs.KeepsEmpty.{good-empty}
-use Rattle.book.proofs.Simulation.{Sim, sim-empty}
-use Rattle.book.proofs.SimulationSteps.{keeps}
+use Rattle.reckoning.specs.Demand.{toldFrom, told, receivedFrom, received, CarriedOut, upTo, Demand-3}
+use Rattle.reckoning.specs.Reckoning.{Reckoning, start, hear, reckonFrom, reckon}
+use Rattle.reckoning.proofs.AlikeLists.{tail-carried, same-reckoning, same-evening}
+use Rattle.reckoning.proofs.Simulation.{Sim, sim-empty}
+use Rattle.reckoning.proofs.SimulationSteps.{keeps}
 
 -- ---- cash is the money of all answers
 

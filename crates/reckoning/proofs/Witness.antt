@@ -24,16 +24,16 @@ use Rattle.series.specs.Verdicts.{passesLimit}
 use Rattle.terms.specs.declared.Category.the-variants.{American}
 use Rattle.terms.specs.declared.OptionType.the-variants.{Call}
 use Rattle.value.specs.Rounding.{nearest}
 use Rattle.book.specs.Answers.{carriedOut}
-use Rattle.book.specs.Demand.{eventAt, carriedAt, CarriedOut, OtherMark, Alike, isMark, upTo}
 use Rattle.book.specs.Sessions.{intradayMoney, eveningMargin, eveningMoney}
 use Rattle.book.specs.State.{emptyBook, futures, cash}
 use Rattle.book.specs.Step.{outcome, stepOf, run, after}
 use Rattle.book.specs.Verdicts.{firstFrom, needsMark}
 use Rattle.book.specs.declared.state.Event.{Event}
 use Rattle.book.specs.declared.state.Event.the-variants.{List, Trade, Mark, Intraday, Evening}
-use Rattle.book.proofs.Demand.{demand-3}
 use Rattle.book.proofs.LiveSeries.{both-true}
+use Rattle.reckoning.specs.Demand.{eventAt, carriedAt, CarriedOut, OtherMark, Alike, isMark, upTo}
+use Rattle.reckoning.proofs.Demand.{demand-3}
 
 -- the list of 01, "Rows", with the option price p in the mark for its intraday session
 abbrev pub example : ℕ → list.List Event

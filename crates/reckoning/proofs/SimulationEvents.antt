@@ -26,13 +26,13 @@ use Rattle.series.specs.declared.state.Listing.{Listing}
 use Rattle.series.specs.declared.state.Mark.{Mark}
 use Rattle.series.specs.declared.state.Series.{Series}
 use Rattle.terms.specs.Bounds.{accounts, seriesRoom, blotterRoom}
 use Rattle.book.specs.Good.{Good}
-use Rattle.book.specs.Reckoning.{Reckoning, noQuotes, forSeries, forAccount, tradedFor, afterList, afterTrade, afterRequest, withMarks}
 use Rattle.book.specs.Sessions.{intradayMoney, afterIntraday}
 use Rattle.book.specs.State.{noSeries, noTrade, noListing, seriesAt, live, withSeries}
 use Rattle.book.specs.Step.{listed, withTrade}
 use Rattle.book.specs.declared.state.Book.{Book}
-use Rattle.book.proofs.Simulation.{SameSeries, SeriesIn, MarkIn, Sim, no-mark, dormant}
+use Rattle.reckoning.specs.Reckoning.{Reckoning, noQuotes, forSeries, forAccount, tradedFor, afterList, afterTrade, afterRequest, withMarks}
+use Rattle.reckoning.proofs.Simulation.{SameSeries, SeriesIn, MarkIn, Sim, no-mark, dormant}
 
 -- ---- one series or one account has something new
 

@@ -10,14 +10,14 @@ use native.Mathlib.Nat.{not-suc-le-zero}
 use native.Mathlib.Omega.{arith}
 use lib.ListN.{length}
 use lib.Dec.{T, T-not}
 use Rattle.book.specs.Answers.{carriedOut}
-use Rattle.book.specs.Demand.{toldFrom, told, eventAt, CarriedOut, ForIntraday, isMark, OtherMark, Alike, upTo}
-use Rattle.book.specs.Reckoning.{Reckoning, noQuotes, start, afterList, afterTrade, afterRequest, withMarks, carry, hear, reckonFrom, reckon}
 use Rattle.book.specs.State.{emptyBook}
 use Rattle.book.specs.Step.{stepOf, run}
 use Rattle.book.specs.declared.state.Book.{Book}
 use Rattle.book.specs.declared.state.Event.{Event}
 use Rattle.book.specs.declared.state.Event.the-variants.{List, Trade, Exercise, Decline, Mark, Intraday, Evening}
+use Rattle.reckoning.specs.Demand.{toldFrom, told, eventAt, CarriedOut, ForIntraday, isMark, OtherMark, Alike, upTo}
+use Rattle.reckoning.specs.Reckoning.{Reckoning, noQuotes, start, afterList, afterTrade, afterRequest, withMarks, carry, hear, reckonFrom, reckon}
 
 -- ---- the next session
 

@@ -18,11 +18,11 @@ use Rattle.series.specs.declared.state.Mark.{Mark}
 use Rattle.series.specs.declared.state.Series.{Series}
 use Rattle.terms.specs.Bounds.{accounts, seriesRoom}
 use Rattle.value.specs.Value.{coefficientOf}
 use Rattle.book.specs.Good.{Good, Idle}
-use Rattle.book.specs.Reckoning.{Quote, Reckoning, start, running, tradedFor}
 use Rattle.book.specs.State.{emptyBook, noListing, seriesAt, tradeAt, live, cash}
 use Rattle.book.specs.declared.state.Book.{Book}
 use Rattle.book.proofs.LiveSeries.{false-not-true}
+use Rattle.reckoning.specs.Reckoning.{Quote, Reckoning, start, running, tradedFor}
 
 -- a series of the book, and what the reckoning keeps of it but for its mark
 pub record SameSeries (s : Series) (l : Listing) (b : ℕ) (n B : ℕ → ℤ) (request : ℕ → ℕ) (decline : ℕ → Bool) (f : ℕ → ℤ) : Type 0 where

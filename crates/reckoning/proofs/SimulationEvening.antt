@@ -22,14 +22,14 @@ use Rattle.series.specs.declared.state.Mark.{Mark}
 use Rattle.series.specs.declared.state.Series.{Series}
 use Rattle.terms.specs.Bounds.{accounts, seriesRoom}
 use Rattle.value.specs.Value.{coefficientOf}
 use Rattle.book.specs.Good.{Good}
-use Rattle.book.specs.Reckoning.{Reckoning, noQuotes, running, fixing, closingPosition, newFutures, coefficient, tradedFor, dayMoney}
-use Rattle.book.specs.Reckoning as reckoning
 use Rattle.book.specs.Sessions.{marginIn, eveningMargin, eveningMoney, afterEvening}
 use Rattle.book.specs.State.{noSeries, seriesAt, live}
 use Rattle.book.specs.declared.state.Book.{Book}
 use Rattle.book.proofs.Allowed.{AllMarked}
-use Rattle.book.proofs.Simulation.{SameSeries, SeriesIn, SameMark, Sim, no-mark, live-running, dormant}
+use Rattle.reckoning.specs.Reckoning.{Reckoning, noQuotes, running, fixing, closingPosition, newFutures, coefficient, tradedFor, dayMoney}
+use Rattle.reckoning.specs.Reckoning as reckoning
+use Rattle.reckoning.proofs.Simulation.{SameSeries, SeriesIn, SameMark, Sim, no-mark, live-running, dormant}
 
 -- the evening takes back what the intraday session paid
 settle : (c p m : ℤ) → (c +ℤ p) +ℤ (m -ℤ p) ≡ (c +ℤ m) +ℤ pos 0
