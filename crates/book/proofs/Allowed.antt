@@ -18,7 +18,7 @@ use Rattle.book.specs.declared.state.Book.{Book}
 use Rattle.book.specs.declared.state.Event.the-variants as event
 use Rattle.book.specs.declared.state.Found.{Found}
 use Rattle.book.specs.declared.state.Found.the-variants.{At, Nothing}
-use Rattle.book.proofs.LiveSeries.{live-yes, false-not-true}
+use Rattle.book.proofs.Live.{live-yes, false-not-true}
 
 -- ---- the parts of a verdict
 

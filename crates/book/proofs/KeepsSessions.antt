@@ -22,7 +22,7 @@ use Rattle.book.specs.State.{seriesAt, tradeAt, live, cash, noListing, n
 use Rattle.book.specs.declared.state.Book.{Book}
 use Rattle.book.proofs.Allowed.{CanIntraday, CanEvening}
 use Rattle.book.proofs.KeepsEvents.{same-trade}
-use Rattle.book.proofs.LiveSeries.{live-yes, is-live, false-not-true}
+use Rattle.book.proofs.Live.{live-yes, is-live, false-not-true}
 use Rattle.book.proofs.Money.{intraday-within, intraday-balances, evening-balances, settled-within}
 
 -- what holds of a live series once it is changed, and of the others as they are, holds of each

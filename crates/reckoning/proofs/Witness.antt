@@ -31,7 +31,7 @@ use Rattle.book.specs.Step.{outcome, stepOf, run, after}
 use Rattle.book.specs.Verdicts.{firstFrom, needsMark}
 use Rattle.book.specs.declared.state.Event.{Event}
 use Rattle.book.specs.declared.state.Event.the-variants.{List, Trade, Mark, Intraday, Evening}
-use Rattle.book.proofs.LiveSeries.{both-true}
+use Rattle.book.proofs.Live.{both-true}
 use Rattle.reckoning.specs.Demand.{eventAt, carriedAt, CarriedOut, OtherMark, Alike, isMark, upTo}
 use Rattle.reckoning.proofs.Demand.{demand-3}
 
