@@ -1,5 +1,5 @@
 -- Every list of events meets the demand.
-use mathlib.Core.Path.{_≡_, refl, sym, ap, _∙_}
+use mathlib.Core.Path.{_≡_, refl, sym, _∙_}
 use mathlib.Core.List as list
 use mathlib.Core.List.{[], _∷_}
 use Prim.Native.Nat.{ℕ, zero, suc, _<_}
@@ -9,13 +9,13 @@ use lib.IntN.{ℤ, pos, _+ℤ_, +ℤ-assoc, +ℤ-idl, +ℤ-idr}
 use lib.ListN.{getD-replicate}
 use Rattle.integer.specs.Sum.{at}
 use Rattle.integer.specs.Table.{table, getD-table}
+use Rattle.terms.specs.Bounds.{accounts}
 use Rattle.series.specs.declared.refusal.Verdict.{Verdict}
 use Rattle.series.specs.declared.refusal.Verdict.the-variants.{Allowed, Refused}
-use Rattle.terms.specs.Bounds.{accounts}
 use Rattle.book.specs.Answers.{carriedOut}
 use Rattle.book.specs.Good.{Good}
 use Rattle.book.specs.Sessions.{intradayMoney, eveningMoney}
-use Rattle.book.specs.State.{noMoney, emptyBook, position, futures, cash}
+use Rattle.book.specs.State.{noMoney, emptyBook, cash}
 use Rattle.book.specs.Step as step
 use Rattle.book.specs.Step.{outcome, stepOf, run, after}
 use Rattle.book.specs.Verdicts.{verdictOf}
@@ -27,7 +27,8 @@ use Rattle.book.proofs.Keeps.{good-step, good-after}
 use Rattle.book.proofs.KeepsEmpty.{good-empty}
 use Rattle.reckoning.specs.Demand.{toldFrom, told, receivedFrom, received, CarriedOut, upTo, Demand-3}
 use Rattle.reckoning.specs.Reckoning.{Reckoning, start, hear, reckonFrom, reckon}
-use Rattle.reckoning.proofs.AlikeLists.{tail-carried, same-reckoning, same-evening}
+use Rattle.reckoning.proofs.AlikeLists.{same-book}
+use Rattle.reckoning.proofs.NextSession.{tail-carried}
 use Rattle.reckoning.proofs.Simulation.{Sim, sim-empty}
 use Rattle.reckoning.proofs.SimulationSteps.{keeps}
 
@@ -116,12 +117,5 @@ demand-3 es =
       reckoned-futures = λ s a h k. sim es .series s h .futures a k;
       cash-is-money = cash-is-money es;
       evening-cash = evening-cash es;
-      no-trace-in-cash = λ fs A i E a k.
-          evening-cash es i E a k ∙ ap (λ (r : Reckoning). r .cash a) (same-reckoning es fs A i E) ∙ sym (evening-cash fs i (same-evening es fs A i E) a k);
-      no-trace-in-positions = λ fs A i E s a h k.
-          sim (upTo i es) .series s h .positions a k ∙ ap (λ (r : Reckoning). r .position s a) (same-reckoning es fs A i E)
-          ∙ sym (sim (upTo i fs) .series s h .positions a k);
-      no-trace-in-futures = λ fs A i E s a h k.
-          sim (upTo i es) .series s h .futures a k ∙ ap (λ (r : Reckoning). r .futures s a) (same-reckoning es fs A i E)
-          ∙ sym (sim (upTo i fs) .series s h .futures a k);
+      no-trace = same-book es;
     }

@@ -1,6 +1,6 @@
 -- The demand is not empty: 01's example is a list with an intraday session and two evenings carried out, the second an expiry at the
 -- money; and another option price in the mark for its intraday session makes another list that is alike.
-use mathlib.Core.Path.{_≡_, refl, sym, _∙_}
+use mathlib.Core.Path.{_≡_, refl, sym, ap, _∙_}
 use mathlib.Core.Logic.{_⊎_, inl, inr}
 use mathlib.Core.Bool.{Bool, true, _&&_}
 use mathlib.Core.List as list
@@ -29,6 +29,7 @@ use Rattle.book.specs.Sessions.{intradayMoney, eveningMargin, eveningMoney}
 use Rattle.book.specs.State.{emptyBook, futures, cash}
 use Rattle.book.specs.Step.{outcome, stepOf, run, after}
 use Rattle.book.specs.Verdicts.{firstFrom, needsMark}
+use Rattle.book.specs.declared.state.Book.{Book}
 use Rattle.book.specs.declared.state.Event.{Event}
 use Rattle.book.specs.declared.state.Event.the-variants.{List, Trade, Mark, Intraday, Evening}
 use Rattle.book.proofs.Live.{both-true}
@@ -129,4 +130,4 @@ witnessed =
 -- so the cash that the other list leaves is known by the demand, and not computed
 pub other-cash : cash (after (upTo 7 (example 16100))) 1 ≡ negsuc 149999
 other-cash =
-    sym (demand-3 (example 16000) .no-trace-in-cash (example 16100) (witnessed .alike) 7 (witnessed .expiry) 1 (lit< tt)) ∙ witnessed .expiry-cash
+    sym (ap (λ (b : Book). cash b 1) (demand-3 (example 16000) .no-trace (example 16100) (witnessed .alike) 7 (witnessed .expiry))) ∙ witnessed .expiry-cash

@@ -94,10 +94,6 @@ pub record Demand-3 (es : list.List Event) : Type 0 where
   pub cash-is-money : (a : ℕ) → a < accounts → cash (after es) a ≡ received es a
   pub evening-cash : (i : ℕ) → CarriedOut emptyBook es Evening i → (a : ℕ) → a < accounts
       → cash (after (upTo i es)) a ≡ reckon (told (upTo i es)) .cash a
-  -- numbers in marks made for an intraday session leave no trace after the evening
-  pub no-trace-in-cash : (fs : list.List Event) → Alike emptyBook emptyBook es fs → (i : ℕ) → CarriedOut emptyBook es Evening i
-      → (a : ℕ) → a < accounts → cash (after (upTo i es)) a ≡ cash (after (upTo i fs)) a
-  pub no-trace-in-positions : (fs : list.List Event) → Alike emptyBook emptyBook es fs → (i : ℕ) → CarriedOut emptyBook es Evening i
-      → (s a : ℕ) → s < seriesRoom → a < accounts → position (after (upTo i es)) s a ≡ position (after (upTo i fs)) s a
-  pub no-trace-in-futures : (fs : list.List Event) → Alike emptyBook emptyBook es fs → (i : ℕ) → CarriedOut emptyBook es Evening i
-      → (s a : ℕ) → s < seriesRoom → a < accounts → futures (after (upTo i es)) s a ≡ futures (after (upTo i fs)) s a
+  -- numbers in marks made for an intraday session leave no trace after the evening: cash, positions, futures and all else are the same
+  pub no-trace : (fs : list.List Event) → Alike emptyBook emptyBook es fs → (i : ℕ) → CarriedOut emptyBook es Evening i
+      → after (upTo i es) ≡ after (upTo i fs)
