@@ -7,6 +7,7 @@ use native.Mathlib.Decide.{ℕ-discrete}
 use native.Mathlib.Omega.{arith}
 use lib.ListN.{length, set, getD, length-set}
 use lib.Seq.{getD-set-same, getD-set-other}
+use Rattle.margin.specs.Margin.{noTrade}
 use Rattle.margin.specs.declared.trade.Trade.{Trade}
 use Rattle.terms.specs.Bounds.{seriesRoom, blotterRoom}
 use Rattle.series.specs.Changes.{traded, requested, declinedBy, marked}
@@ -16,7 +17,7 @@ use Rattle.series.specs.declared.state.Listing.{Listing}
 use Rattle.series.specs.declared.state.Series.{Series}
 use Rattle.series.proofs.Keeps.{good-new, good-traded, good-requested, good-declined, good-marked}
 use Rattle.book.specs.Good.{Good, GoodTrade, Idle}
-use Rattle.book.specs.State.{seriesAt, tradeAt, withSeries, noSeries, noTrade, noListing}
+use Rattle.book.specs.State.{seriesAt, tradeAt, withSeries, noSeries, noListing}
 use Rattle.book.specs.Step.{listed, withTrade}
 use Rattle.book.specs.declared.state.Book.{Book}
 use Rattle.book.proofs.Allowed.{CanList, CanTrade, CanExercise, CanDecline, CanMark}

@@ -7,9 +7,10 @@ use lib.IntN.{ℤ, pos}
 use lib.ListN.{getD, set, replicate}
 use Rattle.choice.specs.Choice.{choose}
 use Rattle.integer.specs.Sum.{at}
+use Rattle.margin.specs.Margin.{noTrade}
 use Rattle.margin.specs.declared.trade.Trade.{Trade}
 use Rattle.terms.specs.Bounds.{accounts, seriesRoom, blotterRoom}
-use Rattle.series.specs.Series.{newSeries, expired, placeOf, positionOf}
+use Rattle.series.specs.Series.{noMark, newSeries, expired, placeOf, positionOf}
 use Rattle.series.specs.declared.state.Listing.{Listing}
 use Rattle.series.specs.declared.state.Series.{Series}
 use Rattle.terms.specs.declared.OptionType.the-variants.{Call}
@@ -20,11 +21,9 @@ use Rattle.book.specs.declared.state.Book.{Book}
 abbrev pub noMoney : List ℤ
 noMoney = replicate accounts (pos 0)
 
+-- the data of a series that is not listed
 abbrev pub noListing : Listing
 noListing = record { option = Call; category = American; strike = 0; tick = 0; last = 0 }
-
-abbrev pub noTrade : Trade
-noTrade = record { series = 0; buyer = 0; seller = 0; quantity = 0; price = 0 }
 
 -- "An empty book is at day 0, with no series and all else 0."
 abbrev pub emptyBook : Book
@@ -45,7 +44,7 @@ abbrev pub noSeries : Series
 noSeries =
     record {
       listing = noListing;
-      mark = record { made = false; option = 0; future = 0; coefficient = 0 };
+      mark = noMark;
       price = 0;
       positions = [];
       opening = [];

@@ -52,6 +52,7 @@ ownVerdict day trades l positions (Trade i x y q p) = tradeVerdict l positions d
 ownVerdict day trades l positions (Exercise i a q) = exerciseVerdict l positions day a q
 ownVerdict day trades l positions (Decline i a) = declineVerdict l day a
 ownVerdict day trades l positions (Mark i p f w) = markVerdict l day p f w
+-- the others are on no series, and are not asked for here
 ownVerdict day trades l positions (List option category strike tick last) = Refused UnknownSeries
 ownVerdict day trades l positions Intraday = Refused UnknownSeries
 ownVerdict day trades l positions Evening = Refused UnknownSeries
@@ -60,6 +61,7 @@ ownVerdict day trades l positions Evening = Refused UnknownSeries
 abbrev pub verdictIn : ℕ → ℕ → ℕ → Listing → list.List ℤ → Event → Verdict
 verdictIn day n trades l positions e = onSeries day n (seriesOf e) (ownVerdict day trades l positions e)
 
+-- on series i of a book
 abbrev pub verdictAt : Book → ℕ → Event → Verdict
 verdictAt b i e = verdictIn (b .day) (b .listed) (b .trades) (seriesAt b i .listing) (seriesAt b i .positions) e
 
@@ -80,6 +82,7 @@ unfoldable pub needsMark : Found → Verdict
 needsMark (At i) = Refused (NoMark i)
 needsMark Nothing = Allowed
 
+-- every event: "The lowest number that applies is the answer."
 abbrev pub verdictOf : Book → Event → Verdict
 verdictOf b (List option category strike tick last) = unlessFinished (b .day) (listVerdict (b .day) strike tick last then roomVerdict (b .listed))
 verdictOf b (Trade i x y q p) = verdictAt b i (Trade i x y q p)

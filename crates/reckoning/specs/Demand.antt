@@ -11,7 +11,7 @@ use lib.Dec.{T}
 use Rattle.exercise.specs.Places.{places}
 use Rattle.integer.specs.Sum.{sumTo, at}
 use Rattle.terms.specs.Bounds.{accounts, seriesRoom}
-use Rattle.book.specs.Answers.{carriedOut}
+use Rattle.book.specs.Answers.{wasCarriedOut}
 use Rattle.book.specs.State.{emptyBook, seriesAt, position, futures, cash}
 use Rattle.book.specs.Step.{stepOf, run, after}
 use Rattle.book.specs.declared.state.Book.{Book}
@@ -22,7 +22,7 @@ use Rattle.reckoning.specs.Reckoning.{Told, reckon}
 -- the events es after a book, each with whether it was carried out: all that the reckoning is told
 unfoldable pub toldFrom : Book → list.List Event → list.List Told
 toldFrom b [] = []
-toldFrom b (e ∷ es) = record { event = e; carried = carriedOut (stepOf b e .answer) } ∷ toldFrom (stepOf b e .book) es
+toldFrom b (e ∷ es) = record { event = e; carried = wasCarriedOut (stepOf b e .answer) } ∷ toldFrom (stepOf b e .book) es
 
 abbrev pub told : list.List Event → list.List Told
 told es = toldFrom emptyBook es
@@ -40,7 +40,7 @@ abbrev pub eventAt : list.List Event → ℕ → Event
 eventAt es i = getD es i Intraday
 
 abbrev pub carriedAt : Book → list.List Event → ℕ → Bool
-carriedAt b es i = carriedOut (stepOf (run b (take i es)) (eventAt es i) .answer)
+carriedAt b es i = wasCarriedOut (stepOf (run b (take i es)) (eventAt es i) .answer)
 
 -- the event e stands at place i, and is carried out
 pub record CarriedOut (b : Book) (es : list.List Event) (e : Event) (i : ℕ) : Type 0 where
@@ -56,6 +56,7 @@ pub record ForIntraday (b : Book) (es : list.List Event) (i : ℕ) : Type 0 wher
   pub no-intraday-before : (k : ℕ) → i < k → k < session → ¬ CarriedOut b es Intraday k
   pub no-evening-before : (k : ℕ) → i < k → k < session → ¬ CarriedOut b es Evening k
 
+-- the event is a mark
 unfoldable pub isMark : Event → Bool
 isMark (List option category strike tick last) = false
 isMark (Trade i x y q p) = false

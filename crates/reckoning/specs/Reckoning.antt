@@ -1,6 +1,5 @@
 -- The reckoning (01, "The reckoning"): a second account of the same events. It is fed the events in order, each with whether it was
 -- carried out, and nothing that the book stores. It knows no intraday payment.
--- "The reckoning" is 01's own term.
 use mathlib.Core.Bool.{Bool, true, false, _&&_, not}
 use mathlib.Core.List as list
 use mathlib.Core.List.{[], _∷_, _++_}
@@ -82,9 +81,11 @@ forAccount i a v f j k = choose (eqb j i && eqb k a) v (f j k)
 abbrev pub running : Reckoning → ℕ → Bool
 running r i = ltb i (r .listed) && not (ltb (r .listing i .last) (r .day))
 
+-- today is its last day
 abbrev pub onLastDay : Reckoning → ℕ → Bool
 onLastDay r i = eqb (r .day) (r .listing i .last)
 
+-- what decides automatic exercise
 abbrev pub fixing : Reckoning → ℕ → Fixing
 fixing r i =
     record { option = r .listing i .option; last = onLastDay r i; strike = r .listing i .strike; price = r .mark i .future }
@@ -205,6 +206,7 @@ withMarks r m =
       cash = r .cash;
     }
 
+-- an event that was carried out
 unfoldable pub carry : Reckoning → Event → Reckoning
 carry r (List option category strike tick last) =
     afterList r (record { option = option; category = category; strike = strike; tick = tick; last = last })
@@ -220,6 +222,7 @@ unfoldable pub hear : Reckoning → Bool → Event → Reckoning
 hear r true e = carry r e
 hear r false e = r
 
+-- the reckoning after the events that it is told, from r on and from its start
 unfoldable pub reckonFrom : Reckoning → list.List Told → Reckoning
 reckonFrom r [] = r
 reckonFrom r (t ∷ ts) = reckonFrom (hear r (t .carried) (t .event)) ts
