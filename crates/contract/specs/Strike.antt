@@ -5,6 +5,7 @@ use mathlib.Core.List.{List, [], _∷_, _++_}
 use lib.ListN.{length, getD}
 use lib.Dec.{leb, ltb, eqb}
 use Rattle.choice.specs.Choice.{choose}
+use Rattle.terms.specs.Bounds.{maxStrike}
 use Rattle.decimal.specs.Text.{digitByte, decimal}
 use Rattle.decimal.specs.Read.{digitOf, numeralAt, onNumeral}
 use Rattle.contract.specs.Scan.{onMark, byteAt}
@@ -50,7 +51,7 @@ onHundredths NoHundredths none next = none
 
 -- Strikes above 100000 are all refused, and the reader need not tell them apart: units above 100000 count as 100001.
 abbrev pub counted : ℕ → ℕ
-counted strike = min (strike / 100) 100001 * 100 + strike % 100
+counted strike = min (strike / 100) (maxStrike / 100 + 1) * 100 + strike % 100
 
 unfoldable pub strikeAt : List ℕ → ℕ → StrikeRead
 strikeAt s at =
@@ -64,4 +65,4 @@ onStrike NoStrike none next = none
 -- 01, "Refusals", 19: a strike is from 0.01 to 100000
 unfoldable pub strikeVerdict : ℕ → Verdict
 strikeVerdict strike =
-    choose (ltb strike 1) (Refused StrikeText) (choose (ltb strike 10000001) Accepted (Refused StrikeText))
+    choose (ltb strike 1) (Refused StrikeText) (choose (ltb strike (maxStrike + 1)) Accepted (Refused StrikeText))

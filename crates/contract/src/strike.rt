@@ -1,4 +1,5 @@
 // The strike: units without leading zeros, and a point with one or two digits where the last is not 0.
+use terms::bounds::MAX_STRIKE;
 ghost use mathlib.Core.Path.{_≡_};
 ghost use Prim.Native.Nat.{_+_, _*_, _≤_, _<_};
 ghost use lib.ListN.{length};
@@ -80,7 +81,7 @@ pub fn verdict(strike: u64) -> Verdict
     ensures { λ r. ⌜ r ≡ strikeVerdict strike ⌝ }
 {
     match strike {
-        1..=10000000 => Verdict::Accepted,
+        1..=MAX_STRIKE => Verdict::Accepted,
         _ => Verdict::Refused(Refusal::StrikeText),
     }
 }
