@@ -1,5 +1,5 @@
--- What writers are assigned (01, "Assignment"), by largest remainders. There are n places, where 01 has accounts; the one at
--- place k is short `w k`, 0 where it is no writer. `e` and `o` are 01's E, "exercised in all", and O, "the sum of what writers
+-- What writers are assigned (01, "Assignment"), by largest remainders. The rule is 01's own: the exchange's specifications have none.
+-- There are n places, where 01 has accounts; the one at place k is short `w k`, 0 where it is no writer. `e` and `o` are 01's E, "exercised in all", and O, "the sum of what writers
 -- are short".
 use mathlib.Core.Bool.{Bool, _&&_, _||_}
 use Prim.Native.Nat.{ℕ, _+_, _-_, _*_, _/_, _%_}

@@ -1,5 +1,5 @@
 -- The reckoning (01, "The reckoning"): a second account of the same events. It is fed the events in order, each with whether it was
--- carried out, and nothing that the book stores. It knows no intraday payment.
+-- carried out, and nothing that the book stores. It knows no intraday payment. "Reckoning" is 01's own term.
 use mathlib.Core.Bool.{Bool, true, false, _&&_, not}
 use mathlib.Core.List as list
 use mathlib.Core.List.{[], _∷_, _++_}
