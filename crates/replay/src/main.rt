@@ -8,13 +8,12 @@ use row::answer_row;
 use row::flushed;
 use row::whole_rows;
 use rows::cut;
-ghost use Prim.Native.Nat.{_%_, _^_, _≤_};
-ghost use mathlib.Core.Path.{_≡_};
+ghost use Prim.Native.Nat.{_≤_};
 ghost use lib.ListN.{length, take};
 ghost use Rattle.book.specs.Good.{Good};
 ghost use Rattle.rows.specs.Cut.{cut, lastRow};
 ghost use Rattle.replay.specs.Input.{Within};
-ghost use Rattle.replay.specs.Rows.{bookAfter, numberAfter};
+ghost use Rattle.replay.specs.Output.{Answered, AnsweredSome, Replayed};
 
 // What a read gave: input up to a place of the buffer, its end, or an error.
 pub enum Input {
@@ -58,7 +57,7 @@ pub struct Run {
 // The rows that end in the buffer, whose input goes up to a place.
 fn pass(buf: &mut [u8], out: &mut [u8], replay: Replay, end: usize) -> Run
     requires { ⌜ (Good (replay .book)) × (replay .at ≤ 28608) × (65536 ≤ length (now out)) × (end ≤ length (now buf)) ⌝ }
-    ensures { λ r. ⌜ (Good (r .replay .book)) × (r .replay .at ≤ 28608) × (r .have ≤ length (now (buf .entry))) × (r .replay .book ≡ bookAfter (replay .book) (cut (take end (now (buf .entry))) .rows)) × (r .replay .row % 2 ^ 64 ≡ numberAfter (replay .row) (cut (take end (now (buf .entry))) .rows)) ⌝ }
+    ensures { λ r. ⌜ (Good (r .replay .book)) × (r .replay .at ≤ 28608) × (r .have ≤ length (now (buf .entry))) × Answered replay (now (out .entry)) (cut (take end (now (buf .entry))) .rows) (r .replay) (now (out .exit)) ⌝ }
 {
     let passed = whole_rows(&buf[..end], out, replay);
     let left = keep(buf, passed.from, end);
@@ -73,7 +72,7 @@ fn pass(buf: &mut [u8], out: &mut [u8], replay: Replay, end: usize) -> Run
 // The end of the input: what it left without CRLF is a row.
 fn last_row(buf: &[u8], out: &mut [u8], replay: Replay, have: usize) -> Run
     requires { ⌜ (Good (replay .book)) × (replay .at ≤ 28608) × (65536 ≤ length (now out)) × (have ≤ length (now buf)) ⌝ }
-    ensures { λ r. ⌜ (Good (r .replay .book)) × (r .replay .at ≤ 28608) × (r .have ≤ 0) × (r .replay .book ≡ bookAfter (replay .book) (lastRow (take have (now (buf .entry))))) × (r .replay .row % 2 ^ 64 ≡ numberAfter (replay .row) (lastRow (take have (now (buf .entry))))) ⌝ }
+    ensures { λ r. ⌜ (Good (r .replay .book)) × (r .replay .at ≤ 28608) × (r .have ≤ 0) × Answered replay (now (out .entry)) (lastRow (take have (now (buf .entry)))) (r .replay) (now (out .exit)) ⌝ }
 {
     if have == 0 {
         return Run {
@@ -95,7 +94,7 @@ fn last_row(buf: &[u8], out: &mut [u8], replay: Replay, have: usize) -> Run
 // Reads once, and goes through what was read.
 fn turn(buf: &mut [u8], out: &mut [u8], run: Run) -> Run
     requires { ⌜ (Good (run .replay .book)) × (run .replay .at ≤ 28608) × (65536 ≤ length (now out)) × (run .have ≤ length (now buf)) ⌝ }
-    ensures { λ r. ⌜ (Good (r .replay .book)) × (r .replay .at ≤ 28608) × (r .have ≤ length (now (buf .entry))) ⌝ }
+    ensures { λ r. ⌜ (Good (r .replay .book)) × (r .replay .at ≤ 28608) × (r .have ≤ length (now (buf .entry))) × AnsweredSome (run .replay) (now (out .entry)) (r .replay) (now (out .exit)) ⌝ }
 {
     let have = run.have;
     let replay = run.replay;
@@ -113,7 +112,7 @@ fn turn(buf: &mut [u8], out: &mut [u8], run: Run) -> Run
 // The header, and then the rows of the whole input; answers how many bytes of output still wait.
 fn replayed(buf: &mut [u8], out: &mut [u8]) -> usize
     requires { ⌜ 65536 ≤ length (now out) ⌝ }
-    ensures { λ r. ⌜ r ≤ 28608 ⌝ }
+    ensures { λ r. ⌜ (r ≤ 28608) × Replayed (now (out .exit)) r ⌝ }
 {
     let at = lines::header(out, 0);
     let book = book::empty();
@@ -141,14 +140,14 @@ fn replayed(buf: &mut [u8], out: &mut [u8]) -> usize
 
 // Writes what waits in the output.
 fn finish(out: &[u8], at: usize)
-    requires { ⌜ at ≤ length (now out) ⌝ }
+    requires { ⌜ (at ≤ length (now out)) × Replayed (now out) at ⌝ }
 {
     io::write_all(1, &out[..at]);
 }
 
 fn with_input(out: &mut [u8]) -> usize
     requires { ⌜ 65536 ≤ length (now out) ⌝ }
-    ensures { λ r. ⌜ r ≤ 28608 ⌝ }
+    ensures { λ r. ⌜ (r ≤ 28608) × Replayed (now (out .exit)) r ⌝ }
 {
     let mut space = io::large_buffer();
     let buf: &mut [u8] = &mut space;

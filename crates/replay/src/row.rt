@@ -14,14 +14,15 @@ ghost use mathlib.Core.Path.{_≡_};
 ghost use mathlib.Core.Bool.{false};
 ghost use mathlib.Core.List.{[]};
 ghost use Prim.Native.Nat.{_+_, _%_, _^_, _≤_};
-ghost use lib.ListN.{length, drop};
+ghost use lib.ListN.{length, take, drop};
 ghost use Rattle.book.specs.Good.{Good};
 ghost use Rattle.book.specs.Step.{stepOf};
 ghost use Rattle.decimal.specs.Put.{Put};
 ghost use Rattle.report.specs.Report.{isSession, reportOf};
 ghost use Rattle.rows.specs.Cut.{cut};
 ghost use Rattle.rows.specs.Row.{rowOf};
-ghost use Rattle.replay.specs.Rows.{bookBy, bookAfter, numberAfter, linesBy};
+ghost use Rattle.replay.specs.Output.{waitsOn, Answered, AnsweredUpTo};
+ghost use Rattle.replay.specs.Rows.{bookBy, linesBy};
 
 // The book, the rows answered so far, and the bytes of output that wait to be written.
 pub struct Replay {
@@ -125,7 +126,7 @@ pub fn answer_row(bytes: &[u8], out: &mut [u8], replay: Replay) -> Replay
 // Room for the lines of one more row: where there is none, what waits is written.
 pub fn flushed(out: &mut [u8], at: usize) -> usize
     requires { ⌜ at ≤ length (now out) ⌝ }
-    ensures { λ r. ⌜ r ≤ 28608 ⌝ }
+    ensures { λ r. ⌜ (r ≤ 28608) × (take r (now (out .exit)) ≡ waitsOn (take at (now (out .entry)))) ⌝ }
 {
     if at <= 28608 {
         return at;
@@ -138,7 +139,7 @@ pub fn flushed(out: &mut [u8], at: usize) -> usize
 // row changes one series of it, and the blotter.
 fn series_rows(input: &[u8], start: usize, out: &mut [u8], replay: Replay) -> Passed
     requires { ⌜ (Good (replay .book)) × (replay .at ≤ 28608) × (65536 ≤ length (now out)) × (start ≤ length (now input)) ⌝ }
-    ensures { λ r. ⌜ (Good (r .replay .book)) × (r .replay .at ≤ 28608) × (start ≤ r .from) × (r .from ≤ length (now (input .entry))) × (bookAfter (replay .book) (cut (drop start (now (input .entry))) .rows) ≡ bookAfter (r .replay .book) (cut (drop (r .from) (now (input .entry))) .rows)) × (numberAfter (replay .row) (cut (drop start (now (input .entry))) .rows) ≡ numberAfter (r .replay .row) (cut (drop (r .from) (now (input .entry))) .rows)) ⌝ }
+    ensures { λ r. ⌜ (Good (r .replay .book)) × (r .replay .at ≤ 28608) × (start ≤ r .from) × (r .from ≤ length (now (input .entry))) × AnsweredUpTo replay (now (out .entry)) (cut (drop start (now (input .entry))) .rows) (r .replay) (now (out .exit)) (cut (drop (r .from) (now (input .entry))) .rows) ⌝ }
 {
     let mut book = replay.book;
     let mut row = replay.row;
@@ -188,7 +189,7 @@ fn series_rows(input: &[u8], start: usize, out: &mut [u8], replay: Replay) -> Pa
 // The rows of a buffer that end in it.
 pub fn whole_rows(input: &[u8], out: &mut [u8], replay: Replay) -> Passed
     requires { ⌜ (Good (replay .book)) × (replay .at ≤ 28608) × (65536 ≤ length (now out)) ⌝ }
-    ensures { λ r. ⌜ (Good (r .replay .book)) × (r .replay .at ≤ 28608) × (r .from ≤ length (now (input .entry))) × (r .replay .book ≡ bookAfter (replay .book) (cut (now (input .entry)) .rows)) × (cut (drop (r .from) (now (input .entry))) .rows ≡ []) × (r .replay .row % 2 ^ 64 ≡ numberAfter (replay .row) (cut (now (input .entry)) .rows)) ⌝ }
+    ensures { λ r. ⌜ (Good (r .replay .book)) × (r .replay .at ≤ 28608) × (r .from ≤ length (now (input .entry))) × (cut (drop (r .from) (now (input .entry))) .rows ≡ []) × Answered replay (now (out .entry)) (cut (now (input .entry)) .rows) (r .replay) (now (out .exit)) ⌝ }
 {
     let mut now = replay;
     let mut from = 0;

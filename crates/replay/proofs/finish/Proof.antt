@@ -6,7 +6,7 @@ use Rattle.replay.proofs.finish.Statement.{statement}
 use Rattle.replay.proofs.finish.Tie as tie
 
 slice-aggregate-write-all : tie.Need-slice-aggregate-write-all
-slice-aggregate-write-all c = sym (length-take-le _ _ (c .before .before .pre))
+slice-aggregate-write-all c = sym (length-take-le _ _ (c .before .before .pre .0))
 
 write-all-requires : tie.Need-write-all-requires
 write-all-requires c κs = search needs

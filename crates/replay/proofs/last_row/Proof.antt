@@ -1,10 +1,9 @@
 -- `replay::last_row` meets its contract.
-use mathlib.Core.Path.{sym, ap, _∙_}
-use Prim.Native.Nat.{ℕ, _%_, _^_}
+use mathlib.Core.Path.{sym}
 use native.Mathlib.Omega.{arith}
 use lib.ListN.{take}
 use lib.Seq.{length-take-le}
-use Rattle.replay.proofs.Books.{last-none, last-some, last-number-none, last-number-some}
+use Rattle.replay.proofs.Lines.{row-answered, last-none, last-some}
 use borrow.Author.Needs.{needs}
 use Rattle.replay.proofs.last_row.Statement.{statement}
 use Rattle.replay.proofs.last_row.Tie as tie
@@ -12,7 +11,7 @@ use Rattle.replay.proofs.last_row.Tie as tie
 returns : tie.Need-returns
 returns c =
     let s = c .before .before .before in
-    (s .pre .0, s .pre .1, omega arith, last-none (s .args .replay .book) (s .args .buf .now) (s .args .have) (c .if1 .taken), last-number-none (s .args .replay .row) (s .args .buf .now) (s .args .have) (c .if1 .taken))
+    (s .pre .0, s .pre .1, omega arith, last-none (s .args .replay) (s .args .out .now) (s .args .buf .now) (s .args .have) (c .if1 .taken))
 
 slice-aggregate-answer-row : tie.Need-slice-aggregate-answer-row
 slice-aggregate-answer-row c = sym (length-take-le _ _ (c .before .before .before .before .pre .3))
@@ -29,13 +28,14 @@ same-length c = search needs
 returns-2 : tie.Need-returns-2
 returns-2 c =
     let s = c .before .before .before .before .before .before .before .before .before .before .before .before in
-    let a = c .before .before .before .before .before .before .answer-row .ensures in
+    let a = c .before .before .before .before .before .before .answer-row in
+    let f = c .before .before .flushed in
     let long = length-take-le (s .args .have) (s .args .buf .now) (s .pre .3) in (
-      a .0,
-      c .before .before .flushed .ensures,
+      a .ensures .0,
+      omega (arith, f .ensures .0),
       omega arith,
-      a .3 ∙ last-some (s .args .replay .book) (take (s .args .have) (s .args .buf .now)) (omega (arith, long, c .before .before .before .before .before .before .before .before .before .if1 .left)),
-      ap (λ (n : ℕ). n % 2 ^ 64) (a .2) ∙ last-number-some (s .args .replay .row) (take (s .args .have) (s .args .buf .now)) (omega (arith, long, c .before .before .before .before .before .before .before .before .before .if1 .left)),
+      last-some (take (s .args .have) (s .args .buf .now)) (omega (arith, long, c .before .before .before .before .before .before .before .before .before .if1 .left))
+          (row-answered {next = a .result .at} (a .ensures .3) (a .ensures .2) (a .ensures .4) (omega (arith, a .ensures .1, s .pre .1, s .pre .2)) (f .ensures .1)),
     )
 
 pub last-row-spec : {M : Type 1} → statement M

@@ -1,5 +1,5 @@
 -- `replay::row::answer_row` meets its contract: a row is its event, or is refused.
-use mathlib.Core.Path.{_≡_, sym, _∙_}
+use mathlib.Core.Path.{sym, _∙_}
 use native.Mathlib.Omega.{arith}
 use Rattle.replay.proofs.Books.{book-refused, book-accepted, lines-refused, lines-accepted}
 use borrow.Author.Needs.{needs}

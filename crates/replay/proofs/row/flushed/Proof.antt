@@ -1,12 +1,14 @@
--- `replay::row::flushed` meets its contract.
+-- `replay::row::flushed` meets its contract: all waits on, or it is written and nothing waits.
 use mathlib.Core.Path.{sym}
+use native.Mathlib.Omega.{arith}
 use lib.Seq.{length-take-le}
+use Rattle.replay.proofs.Lines.{all-waits, none-waits}
 use borrow.Author.Needs.{needs}
 use Rattle.replay.proofs.row.flushed.Statement.{statement}
 use Rattle.replay.proofs.row.flushed.Tie as tie
 
 returns : tie.Need-returns
-returns c = search needs
+returns c = (omega arith, all-waits _ _ (c .before .before .pre) (c .if1 .taken))
 
 slice-reshare-prefix-write-all : tie.Need-slice-reshare-prefix-write-all
 slice-reshare-prefix-write-all c = search needs
@@ -21,7 +23,7 @@ same-length : tie.Need-same-length
 same-length c = search needs
 
 returns-2 : tie.Need-returns-2
-returns-2 c = search needs
+returns-2 c = (omega arith, none-waits _ _ (c .before .before .before .before .pre) (omega arith))
 
 pub flushed-spec : {M : Type 1} → statement M
 flushed-spec =

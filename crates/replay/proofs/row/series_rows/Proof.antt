@@ -1,4 +1,5 @@
--- `replay::row::series_rows` meets its contract: each row is its event's step, which keeps the book good.
+-- `replay::row::series_rows` meets its contract: each row is its event's step, which keeps the book good, and has its
+-- answer's line alone.
 use borrow.Author.Needs.{needs}
 use Prim.Native.Nat.{ℕ, _+_, _-_, _≤_, _<_}
 use mathlib.Core.Path.{_≡_, refl, sym, ap, _∙_}
@@ -9,6 +10,7 @@ use Rattle.terms.specs.Bounds.{seriesRoom, blotterRoom}
 use Rattle.book.specs.Effects.{Fits}
 use Rattle.book.specs.Good.{Good}
 use Rattle.book.specs.Step.{stepOf}
+use Rattle.book.specs.Verdicts.{seriesOf}
 use Rattle.book.specs.declared.state.Book.{Book}
 use Rattle.book.specs.declared.state.Event.{Event}
 use Rattle.book.specs.declared.state.Step.{Step}
@@ -16,17 +18,22 @@ use Rattle.book.proofs.Keeps.{good-step}
 use Rattle.book.proofs.Effects.{next-record-within, effect-fits, step-stored}
 use Rattle.rows.specs.Cut.{cut}
 use Rattle.rows.proofs.Ends.{end-fits}
-use Rattle.replay.specs.Rows.{bookAfter, numberAfter}
+use Rattle.replay.specs.Output.{AnsweredUpTo}
 use Rattle.replay.specs.declared.row.Passed.{Passed}
-use Rattle.replay.proofs.Books.{book-accepted, after-next, number-next}
+use Rattle.replay.specs.declared.row.Replay.{Replay}
+use Rattle.replay.proofs.Books.{book-accepted, series-line}
+use Rattle.replay.proofs.Lines.{up-to-none, row-answered, next-answered}
 use Rattle.replay.proofs.row.series_rows.Statement.{statement}
 use Rattle.replay.proofs.row.series_rows.Tie as tie
+
+-- the replay that the loop holds
+abbrev state : Book → ℕ → ℕ → Replay
+state book row at = record { book = book; row = row; at = at }
 
 abbrev Inv-loop : tie.InvT-loop
 Inv-loop input start out₀ book₀ row₀ at₀ from₀ out book row at from =
     (Good book) × (at ≤ 28608) × (start ≤ from) × (from ≤ length input) × (length out ≡ length out₀)
-    × (bookAfter book₀ (cut (drop start input) .rows) ≡ bookAfter book (cut (drop from input) .rows))
-    × (numberAfter row₀ (cut (drop start input) .rows) ≡ numberAfter row (cut (drop from input) .rows))
+    × AnsweredUpTo (state book₀ row₀ at₀) out₀ (cut (drop start input) .rows) (state book row at) out (cut (drop from input) .rows)
 
 abbrev μ-loop : tie.MeasureT-loop
 μ-loop input start out₀ book₀ row₀ at₀ from₀ out book row at from = length input - from
@@ -51,12 +58,12 @@ module _ (c : tie.After-known-told Inv-loop μ-loop) where
 -- what is returned from a turn of the loop
 passed : (l : tie.At-loop Inv-loop μ-loop) (r : Passed) → (r .replay .book ≡ l .loop .book) × (r .replay .at ≡ l .loop .at) × (r .from ≡ l .loop .from) × (r .replay .row ≡ l .loop .row)
     → (Good (r .replay .book)) × (r .replay .at ≤ 28608) × (l .before .before .before .before .args .start ≤ r .from) × (r .from ≤ length (l .before .before .before .before .args .input .now))
-    × (bookAfter (l .before .before .before .before .args .replay .book) (cut (drop (l .before .before .before .before .args .start) (l .before .before .before .before .args .input .now)) .rows)
-    ≡ bookAfter (r .replay .book) (cut (drop (r .from) (l .before .before .before .before .args .input .now)) .rows))
-    × (numberAfter (l .before .before .before .before .args .replay .row) (cut (drop (l .before .before .before .before .args .start) (l .before .before .before .before .args .input .now)) .rows)
-    ≡ numberAfter (r .replay .row) (cut (drop (r .from) (l .before .before .before .before .args .input .now)) .rows))
+    × AnsweredUpTo (l .before .before .before .before .args .replay) (l .before .before .before .before .args .out .now)
+    (cut (drop (l .before .before .before .before .args .start) (l .before .before .before .before .args .input .now)) .rows)
+    (r .replay) (l .loop .out) (cut (drop (r .from) (l .before .before .before .before .args .input .now)) .rows)
 passed l r p =
-    (rw (p .0) (l .loop .inv .0), omega (arith, p .1, l .loop .inv .1), omega (arith, p .2, l .loop .inv .2), omega (arith, p .2, l .loop .inv .3), rw (p .0, p .2) (l .loop .inv .5), rw (p .3, p .2) (l .loop .inv .6))
+    let e : r .replay ≡ state (l .loop .book) (l .loop .row) (l .loop .at) = λ i. record { book = p .0 i; row = p .3 i; at = p .1 i } in
+    (rw (p .0) (l .loop .inv .0), omega (arith, p .1, l .loop .inv .1), omega (arith, p .2, l .loop .inv .2), omega (arith, p .2, l .loop .inv .3), rw (e, p .2) (l .loop .inv .5))
 
 -- the effect of a row's event, the row, and the turn of the loop
 module _ (f : tie.After-effect Inv-loop μ-loop) where
@@ -75,6 +82,9 @@ module _ (f : tie.After-effect Inv-loop μ-loop) where
   room : series-at < seriesRoom
   room = f .before .before .before .before .before .if1 .left
 
+  on-series : seriesOf event < seriesRoom
+  on-series = rw (← f .before .before .before .before .before .before .series-of .ensures) room
+
   fits : Fits (f .effect .result)
   fits = effect-fits (loop-of .loop .book) event _ (f .before .before .before .before .before .before .series-of .ensures) _ (f .effect .ensures)
 
@@ -91,7 +101,7 @@ answer-of c = c .before .before .before .before .before .before .before .before 
 loop-holds : tie.Need-loop-holds Inv-loop μ-loop
 loop-holds c =
     let s = c .before .before .before in
-    (s .pre .0, s .pre .1, omega arith, s .pre .3, refl, refl, refl)
+    (s .pre .0, s .pre .1, omega arith, s .pre .3, refl, up-to-none (s .args .replay) (s .args .out .now) _)
 
 row-end-requires : tie.Need-row-end-requires Inv-loop μ-loop
 row-end-requires c κs = search needs
@@ -243,19 +253,21 @@ loop-again c =
     (a .before .before .before .before .before .mark2 .ensures)
     (a .before .before .joined .ensures)
     (a .before .counted .ensures) in
+    let read = sym (f .before .before .before .before .before .before .before .before .before .before .read-row .ensures) ∙ f .before .before .before .before .before .before .before .before .event .given .1 in
+    let n = c .before .before .before .before .before .before .before .before .wrapping-add-u64 in
+    let p = c .before .before .before .before .before .before .answered in
     let w = c .before .before .flushed in
     let e = ends (row-of f) in (
       stays-good (l .book) (event f) _ (l .inv .0) s,
-      w .ensures,
+      w .ensures .0,
       omega (arith, e .0, l .inv .2),
       e .1,
-      omega (arith, c .before .before .before .before .before .before .answered .kept .0, w .kept .0, l .inv .4),
-      l .inv .5 ∙ after-next _ _ (row-of f .before .before .before .row-end .ensures) (l .book) _ (row-of f .before .end .given .1)
-          ∙ ap (λ (x : Book). bookAfter x (cut (drop (row-of f .before .end .given .0 .0 + 2) (input (row-of f))) .rows))
-          (sym (book-accepted (l .book) (sym (f .before .before .before .before .before .before .before .before .before .before .read-row .ensures) ∙ f .before .before .before .before .before .before .before .before .event .given .1)) ∙ ap (λ (x : Step). x .book) (sym s)),
-      l .inv .6 ∙ number-next _ _ (row-of f .before .before .before .row-end .ensures) (l .row) _ (row-of f .before .end .given .1)
-          ∙ ap (λ (n : ℕ). numberAfter n (cut (drop (row-of f .before .end .given .0 .0 + 2) (input (row-of f))) .rows))
-          (sym (c .before .before .before .before .before .before .before .before .wrapping-add-u64 .ensures)),
+      omega (arith, p .kept .0, w .kept .0, l .inv .4),
+      next-answered (input (row-of f)) (l .from) (row-of f .before .before .before .row-end .ensures) (l .inv .5) _ (row-of f .before .end .given .1)
+          (row-answered {next = p .result} (ap (λ (x : Step). x .book) s ∙ book-accepted (l .book) read) (n .ensures)
+          (rw (← series-line (n .result) (l .book) (l .inv .0) (event f) (on-series f) (ap (λ (x : Step). x .answer) s) read) (p .ensures .0))
+          (omega (arith, p .ensures .1, l .inv .1, l .inv .4, loop-of f .before .before .before .before .pre .2))
+          (w .ensures .1)),
     )
 
 pub series-rows-spec : {M : Type 1} → statement M

@@ -6,19 +6,17 @@ use native.Mathlib.Omega.{arith}
 use mathlib.Core.List.{List}
 use lib.ListN.{length, drop, length-drop}
 use Rattle.book.specs.Good.{Good}
-use Rattle.book.specs.declared.state.Book.{Book}
 use Rattle.rows.specs.Cut.{Cut, cut}
 use Rattle.rows.proofs.Ends.{end-fits, no-row}
-use Rattle.replay.specs.Rows.{bookAfter, numberAfter}
-use Rattle.replay.proofs.Books.{after-none, after-next, number-none, number-next}
+use Rattle.replay.specs.Output.{AnsweredUpTo}
+use Rattle.replay.proofs.Lines.{up-to-none, up-to-more, row-answered, next-answered, all-answered}
 use Rattle.replay.proofs.row.whole_rows.Statement.{statement}
 use Rattle.replay.proofs.row.whole_rows.Tie as tie
 
 abbrev Inv-loop : tie.InvT-loop
 Inv-loop input out₀ now₀ from₀ out now from =
     (Good (now .book)) × (now .at ≤ 28608) × (from ≤ length input) × (length out ≡ length out₀)
-    × (bookAfter (now₀ .book) (cut input .rows) ≡ bookAfter (now .book) (cut (drop from input) .rows))
-    × (numberAfter (now₀ .row) (cut input .rows) ≡ numberAfter (now .row) (cut (drop from input) .rows))
+    × AnsweredUpTo now₀ out₀ (cut input .rows) now out (cut (drop from input) .rows)
 
 abbrev μ-loop : tie.MeasureT-loop
 μ-loop input out₀ now₀ from₀ out now from = length input - from
@@ -49,7 +47,9 @@ abbrev row-of : tie.After-slice-known4 Inv-loop μ-loop → tie.After-known-told
 row-of c = c .before .before .before .before .before .before .before .before .before .before
 
 loop-holds : tie.Need-loop-holds Inv-loop μ-loop
-loop-holds c = (c .before .before .pre .0, c .before .before .pre .1, omega arith, refl, refl, refl)
+loop-holds c =
+    let s = c .before .before in
+    (s .pre .0, s .pre .1, omega arith, refl, up-to-none (s .args .replay) (s .args .out .now) _)
 
 series-rows-requires : tie.Need-series-rows-requires Inv-loop μ-loop
 series-rows-requires c κs =
@@ -81,9 +81,8 @@ returns c =
       r .ensures .0,
       r .ensures .1,
       r .ensures .3,
-      sym (l .loop .inv .4 ∙ r .ensures .4 ∙ after-none buffer (r .result .from) e (r .result .replay .book) q),
       ap (λ (k : Cut). k .rows) (no-row buffer (r .result .from) _ e q),
-      sym (l .loop .inv .5 ∙ r .ensures .5 ∙ number-none buffer (r .result .from) e (r .result .replay .row) q),
+      all-answered buffer (r .result .from) e (up-to-more (l .loop .inv .4) (r .ensures .4)) q,
     )
 
 sub-answer-row : tie.Need-sub-answer-row Inv-loop μ-loop
@@ -126,15 +125,11 @@ loop-again c =
     let r = some k .series-rows in
     let end = k .before .end .given .0 .0 in (
       a .ensures .0,
-      f .ensures,
+      f .ensures .0,
       ends k .1,
       omega (arith, a .kept .1, f .kept .0, r .kept .1, top k .loop .inv .3),
-      top k .loop .inv .4 ∙ r .ensures .4
-          ∙ after-next (input k) (r .result .from) (k .before .before .before .row-end .ensures) (r .result .replay .book) end (k .before .end .given .1)
-          ∙ ap (λ (x : Book). bookAfter x (cut (drop (end + 2) (input k)) .rows)) (sym (a .ensures .3)),
-      top k .loop .inv .5 ∙ r .ensures .5
-          ∙ number-next (input k) (r .result .from) (k .before .before .before .row-end .ensures) (r .result .replay .row) end (k .before .end .given .1)
-          ∙ ap (λ (n : ℕ). numberAfter n (cut (drop (end + 2) (input k)) .rows)) (sym (a .ensures .2)),
+      next-answered (input k) (r .result .from) (k .before .before .before .row-end .ensures) (up-to-more (top k .loop .inv .4) (r .ensures .4)) end (k .before .end .given .1)
+          (row-answered {next = a .result .at} (a .ensures .3) (a .ensures .2) (a .ensures .4) (omega (arith, a .ensures .1, r .ensures .1, r .kept .1, room k)) (f .ensures .1)),
     )
 
 pub whole-rows-spec : {M : Type 1} → statement M

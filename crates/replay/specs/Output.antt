@@ -1,0 +1,57 @@
+-- The output between rows: what waits in its buffer, and what was written before.
+use mathlib.Core.Path.{_≡_}
+use mathlib.Core.List.{List, [], _∷_, _++_}
+use Prim.Native.Nat.{ℕ, _+_, _%_, _^_}
+use lib.Dec.{leb}
+use lib.ListN.{length, take}
+use Rattle.choice.specs.Choice.{choose}
+use Rattle.book.specs.State.{emptyBook}
+use Rattle.book.specs.declared.state.Book.{Book}
+use Rattle.report.specs.Lines.{header}
+use Rattle.rows.specs.Row.{rowOf}
+use Rattle.replay.specs.Rows.{bookBy, bookAfter, numberAfter, linesBy}
+use Rattle.replay.specs.declared.row.Replay.{Replay}
+
+-- After a row, text waits on where it leaves room for the lines of one more, which are 36928 bytes at most, in a buffer of 65536; else it
+-- goes out, and none waits.
+unfoldable pub waitsOn : List ℕ → List ℕ
+waitsOn text = choose (leb (length text) 28608) text []
+
+unfoldable pub goesOut : List ℕ → List ℕ
+goesOut text = choose (leb (length text) 28608) [] text
+
+-- what waits after rows, the lines of each put behind what waits; n is the number of the row before them, and b the book
+unfoldable pub waitsAfter : ℕ → Book → List ℕ → List (List ℕ) → List ℕ
+waitsAfter n b text [] = text
+waitsAfter n b text (row ∷ rows) =
+    waitsAfter ((n + 1) % 2 ^ 64) (bookBy b (rowOf row)) (waitsOn (text ++ linesBy ((n + 1) % 2 ^ 64) b (rowOf row))) rows
+
+-- and what was written by then
+unfoldable pub writtenAfter : ℕ → Book → List ℕ → List (List ℕ) → List ℕ
+writtenAfter n b text [] = []
+writtenAfter n b text (row ∷ rows) =
+    goesOut (text ++ linesBy ((n + 1) % 2 ^ 64) b (rowOf row))
+    ++ writtenAfter ((n + 1) % 2 ^ 64) (bookBy b (rowOf row)) (waitsOn (text ++ linesBy ((n + 1) % 2 ^ 64) b (rowOf row))) rows
+
+-- Rows are answered: from a replay and its buffer of output to another, the book, the number of the last row and what waits are
+-- those after these rows.
+pub record Answered (from : Replay) (before : List ℕ) (rows : List (List ℕ)) (to : Replay) (after : List ℕ) : Type 0 where
+  pub book : to .book ≡ bookAfter (from .book) rows
+  pub number : to .row % 2 ^ 64 ≡ numberAfter (from .row) rows
+  pub waits : take (to .at) after ≡ waitsAfter (from .row) (from .book) (take (from .at) before) rows
+
+-- the first of some rows are answered, and the others are left
+pub record AnsweredUpTo (from : Replay) (before : List ℕ) (rows : List (List ℕ)) (to : Replay) (after : List ℕ) (left : List (List ℕ)) : Type 0 where
+  pub first : List (List ℕ)
+  pub all : rows ≡ first ++ left
+  pub answered : Answered from before first to after
+
+-- rows that the input had
+pub record AnsweredSome (from : Replay) (before : List ℕ) (to : Replay) (after : List ℕ) : Type 0 where
+  pub rows : List (List ℕ)
+  pub answered : Answered from before rows to after
+
+-- the end of the input: what waits is what waits after rows, when it began with the header and an empty book
+pub record Replayed (out : List ℕ) (at : ℕ) : Type 0 where
+  pub rows : List (List ℕ)
+  pub waits : take at out ≡ waitsAfter 0 emptyBook header rows
