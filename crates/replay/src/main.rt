@@ -4,6 +4,7 @@ mod row;
 
 use report::lines;
 use row::Replay;
+use row::Waiting;
 use row::answer_row;
 use row::flushed;
 use row::whole_rows;
@@ -62,10 +63,11 @@ fn pass(buf: &mut [u8], out: &mut [u8], replay: Replay, end: usize) -> Run
     let passed = whole_rows(&buf[..end], out, replay);
     let left = keep(buf, passed.from, end);
     let next = passed.replay;
+    let intact = next.intact;
     Run {
         replay: next,
         have: left,
-        going: true,
+        going: intact,
     }
 }
 
@@ -82,8 +84,9 @@ fn last_row(buf: &[u8], out: &mut [u8], replay: Replay, have: usize) -> Run
         };
     }
     let mut next = answer_row(&buf[..have], out, replay);
-    let at = flushed(out, next.at);
-    next.at = at;
+    let waiting = flushed(out, next.at, next.intact);
+    next.at = waiting.at;
+    next.intact = waiting.intact;
     Run {
         replay: next,
         have: 0,
@@ -109,10 +112,10 @@ fn turn(buf: &mut [u8], out: &mut [u8], run: Run) -> Run
     }
 }
 
-// The header, and then the rows of the whole input; answers how many bytes of output still wait.
-fn replayed(buf: &mut [u8], out: &mut [u8]) -> usize
+// The header, and then the rows of the whole input, or those up to where reading or writing fails.
+fn replayed(buf: &mut [u8], out: &mut [u8]) -> Waiting
     requires { ⌜ 65536 ≤ length (now out) ⌝ }
-    ensures { λ r. ⌜ (r ≤ 28608) × Replayed (now (out .exit)) r ⌝ }
+    ensures { λ r. ⌜ (r .at ≤ 28608) × Replayed (now (out .exit)) (r .at) ⌝ }
 {
     let at = lines::header(out, 0);
     let book = book::empty();
@@ -121,6 +124,7 @@ fn replayed(buf: &mut [u8], out: &mut [u8]) -> usize
             book: book,
             row: 0,
             at: at,
+            intact: true,
         },
         have: 0,
         going: true,
@@ -135,19 +139,28 @@ fn replayed(buf: &mut [u8], out: &mut [u8]) -> usize
         }
         turns -= 1;
     }
-    run.replay.at
+    let left = run.replay.at;
+    let intact = run.replay.intact;
+    Waiting {
+        at: left,
+        intact: intact,
+    }
 }
 
-// Writes what waits in the output.
-fn finish(out: &[u8], at: usize)
-    requires { ⌜ (at ≤ length (now out)) × Replayed (now out) at ⌝ }
+// Writes what waits in the output, where all before it was written.
+fn finish(out: &[u8], waiting: Waiting)
+    requires { ⌜ (waiting .at ≤ length (now out)) × Replayed (now out) (waiting .at) ⌝ }
 {
-    io::write_all(1, &out[..at]);
+    let at = waiting.at;
+    let intact = waiting.intact;
+    if intact {
+        io::write_all(1, &out[..at]);
+    }
 }
 
-fn with_input(out: &mut [u8]) -> usize
+fn with_input(out: &mut [u8]) -> Waiting
     requires { ⌜ 65536 ≤ length (now out) ⌝ }
-    ensures { λ r. ⌜ (r ≤ 28608) × Replayed (now (out .exit)) r ⌝ }
+    ensures { λ r. ⌜ (r .at ≤ 28608) × Replayed (now (out .exit)) (r .at) ⌝ }
 {
     let mut space = io::large_buffer();
     let buf: &mut [u8] = &mut space;
@@ -157,6 +170,6 @@ fn with_input(out: &mut [u8]) -> usize
 fn main() {
     let mut text = io::large_buffer();
     let out: &mut [u8] = &mut text;
-    let at = with_input(out);
-    finish(out, at);
+    let waiting = with_input(out);
+    finish(out, waiting);
 }

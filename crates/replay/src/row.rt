@@ -24,11 +24,19 @@ ghost use Rattle.rows.specs.Row.{rowOf};
 ghost use Rattle.replay.specs.Output.{waitsOn, Answered, AnsweredUpTo};
 ghost use Rattle.replay.specs.Rows.{bookBy, linesBy};
 
-// The book, the rows answered so far, and the bytes of output that wait to be written.
+// The book, the rows answered so far, the bytes of output that wait to be written, and whether the output before them
+// is whole.
 pub struct Replay {
     pub book: Book,
     pub row: u64,
     pub at: usize,
+    pub intact: bool,
+}
+
+// The last two alone.
+pub struct Waiting {
+    pub at: usize,
+    pub intact: bool,
 }
 
 // The replay after the whole rows of a buffer, and where the unfinished row starts.
@@ -38,14 +46,15 @@ pub struct Passed {
 }
 
 // The replay up to a place of its buffer.
-fn up_to(book: Book, row: u64, at: usize, from: usize) -> Passed
-    ensures { λ r. ⌜ (r .replay .book ≡ book) × (r .replay .at ≡ at) × (r .from ≡ from) × (r .replay .row ≡ row) ⌝ }
+fn up_to(book: Book, row: u64, at: usize, intact: bool, from: usize) -> Passed
+    ensures { λ r. ⌜ (r .replay .book ≡ book) × (r .replay .at ≡ at) × (r .from ≡ from) × (r .replay .row ≡ row) × (r .replay .intact ≡ intact) ⌝ }
 {
     Passed {
         replay: Replay {
             book: book,
             row: row,
             at: at,
+            intact: intact,
         },
         from: from,
     }
@@ -66,7 +75,14 @@ fn is_session(event: Event) -> bool
 }
 
 // A session: its step, and all its lines.
-fn session_row(out: &mut [u8], at: usize, row: u64, book: Book, event: Event) -> Replay
+fn session_row(
+    out: &mut [u8],
+    at: usize,
+    intact: bool,
+    row: u64,
+    book: Book,
+    event: Event,
+) -> Replay
     requires { ⌜ (Good book) × (at + 36928 ≤ length (now out)) ⌝ }
     ensures { λ r. ⌜ (Good (r .book)) × (r .at ≤ at + 36928) × (r .row ≡ row) × (r .book ≡ stepOf book event .book) × Put (now (out .entry)) at (reportOf row (book .series) (stepOf book event)) (now (out .exit)) (r .at) ⌝ }
 {
@@ -78,11 +94,12 @@ fn session_row(out: &mut [u8], at: usize, row: u64, book: Book, event: Event) ->
         book: after,
         row: row,
         at: next,
+        intact: intact,
     }
 }
 
 // An event that is no session: its step, and its answer, which is all its report.
-fn event_row(out: &mut [u8], at: usize, row: u64, book: Book, event: Event) -> Replay
+fn event_row(out: &mut [u8], at: usize, intact: bool, row: u64, book: Book, event: Event) -> Replay
     requires { ⌜ (Good book) × (at + 36928 ≤ length (now out)) × (isSession event ≡ false) ⌝ }
     ensures { λ r. ⌜ (Good (r .book)) × (r .at ≤ at + 36928) × (r .row ≡ row) × (r .book ≡ stepOf book event .book) × Put (now (out .entry)) at (reportOf row (book .series) (stepOf book event)) (now (out .exit)) (r .at) ⌝ }
 {
@@ -94,6 +111,7 @@ fn event_row(out: &mut [u8], at: usize, row: u64, book: Book, event: Event) -> R
         book: after,
         row: row,
         at: next,
+        intact: intact,
     }
 }
 
@@ -105,6 +123,7 @@ pub fn answer_row(bytes: &[u8], out: &mut [u8], replay: Replay) -> Replay
     let row = std::num::wrapping_add_u64(replay.row, 1);
     let book = replay.book;
     let at = replay.at;
+    let intact = replay.intact;
     match rows::read_row(bytes) {
         Row::Refused(why) => {
             let next = lines::answer(out, at, row, Found::Nothing, number::of_row(why));
@@ -112,27 +131,40 @@ pub fn answer_row(bytes: &[u8], out: &mut [u8], replay: Replay) -> Replay
                 book: book,
                 row: row,
                 at: next,
+                intact: intact,
             }
         }
         Row::Accepted(event) => {
             if is_session(event) {
-                return session_row(out, at, row, book, event);
+                return session_row(out, at, intact, row, book, event);
             }
-            event_row(out, at, row, book, event)
+            event_row(out, at, intact, row, book, event)
         }
     }
 }
 
-// Room for the lines of one more row: where there is none, what waits is written.
-pub fn flushed(out: &mut [u8], at: usize) -> usize
+// Room for the lines of one more row: where there is none, what waits is written. Once that fails nothing more is.
+pub fn flushed(out: &mut [u8], at: usize, intact: bool) -> Waiting
     requires { ⌜ at ≤ length (now out) ⌝ }
-    ensures { λ r. ⌜ (r ≤ 28608) × (take r (now (out .exit)) ≡ waitsOn (take at (now (out .entry)))) ⌝ }
+    ensures { λ r. ⌜ (r .at ≤ 28608) × (take (r .at) (now (out .exit)) ≡ waitsOn (take at (now (out .entry)))) ⌝ }
 {
     if at <= 28608 {
-        return at;
+        return Waiting {
+            at: at,
+            intact: intact,
+        };
     }
-    io::write_all(1, &out[..at]);
-    0
+    if !intact {
+        return Waiting {
+            at: 0,
+            intact: false,
+        };
+    }
+    let written = io::write_all(1, &out[..at]);
+    Waiting {
+        at: 0,
+        intact: written,
+    }
 }
 
 // From a place of a buffer on, the rows that are events on one series, up to the first other row. The book stays where it is: each
@@ -144,17 +176,18 @@ fn series_rows(input: &[u8], start: usize, out: &mut [u8], replay: Replay) -> Pa
     let mut book = replay.book;
     let mut row = replay.row;
     let mut at = replay.at;
+    let mut intact = replay.intact;
     let mut from = start;
     loop {
         let End::At(end) = cut::row_end(input, from) else {
-            return up_to(book, row, at, from);
+            return up_to(book, row, at, intact, from);
         };
         let Row::Accepted(event) = rows::read_row(&input[from..end]) else {
-            return up_to(book, row, at, from);
+            return up_to(book, row, at, intact, from);
         };
         let i = effect::series_of(event);
         if SERIES <= i {
-            return up_to(book, row, at, from);
+            return up_to(book, row, at, intact, from);
         }
         let mut s = book.series[i];
         let listing = s.listing;
@@ -181,7 +214,9 @@ fn series_rows(input: &[u8], start: usize, out: &mut [u8], replay: Replay) -> Pa
         let answer = apply::answer(effect);
         row = std::num::wrapping_add_u64(row, 1);
         let end_of_line = session::answered(out, at, row, answer);
-        at = flushed(out, end_of_line);
+        let waiting = flushed(out, end_of_line, intact);
+        at = waiting.at;
+        intact = waiting.intact;
         from = end + 2;
     }
 }
@@ -201,9 +236,10 @@ pub fn whole_rows(input: &[u8], out: &mut [u8], replay: Replay) -> Passed
         };
         let rest = some.replay;
         let next = answer_row(&input[start..end], out, rest);
-        let at = flushed(out, next.at);
+        let waiting = flushed(out, next.at, next.intact);
         now = next;
-        now.at = at;
+        now.at = waiting.at;
+        now.intact = waiting.intact;
         from = end + 2;
     }
 }

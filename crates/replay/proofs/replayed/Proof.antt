@@ -1,6 +1,7 @@
 -- `replay::replayed` meets its contract: between two reads the book is good, and there is room for the lines of one more row.
 use borrow.Author.Needs.{needs}
 use mathlib.Core.Path.{_≡_, refl}
+use mathlib.Core.Bool.{true}
 use mathlib.Core.List.{List, []}
 use Prim.Native.Nat.{ℕ, _≤_}
 use native.Mathlib.Omega.{arith}
@@ -21,7 +22,7 @@ abbrev μ-loop : tie.MeasureT-loop
 
 -- the rows up to a turn of the loop, or past it, began after the header
 begun : (l : tie.At-loop Inv-loop μ-loop) {t : Replay} {after : List ℕ}
-    → AnsweredSome (record { book = l .before .empty .result; row = 0; at = l .before .before .before .before .header .result }) (l .before .before .before .before .header .last .0) t after
+    → AnsweredSome (record { book = l .before .empty .result; row = 0; at = l .before .before .before .before .header .result; intact = true }) (l .before .before .before .before .header .last .0) t after
     → Replayed after (t .at)
 begun l a =
     let h = l .before .before .before .before .header in

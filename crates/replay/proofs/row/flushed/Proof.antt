@@ -1,4 +1,4 @@
--- `replay::row::flushed` meets its contract: all waits on, or it is written and nothing waits.
+-- `replay::row::flushed` meets its contract: all waits on, or nothing does.
 use mathlib.Core.Path.{sym}
 use native.Mathlib.Omega.{arith}
 use lib.Seq.{length-take-le}
@@ -10,11 +10,14 @@ use Rattle.replay.proofs.row.flushed.Tie as tie
 returns : tie.Need-returns
 returns c = (omega arith, all-waits _ _ (c .before .before .pre) (c .if1 .taken))
 
+returns-2 : tie.Need-returns-2
+returns-2 c = (omega arith, none-waits _ _ (c .before .before .before .pre) (c .before .if1 .left))
+
 slice-reshare-prefix-write-all : tie.Need-slice-reshare-prefix-write-all
 slice-reshare-prefix-write-all c = search needs
 
 slice-aggregate-write-all : tie.Need-slice-aggregate-write-all
-slice-aggregate-write-all c = sym (length-take-le _ _ (c .before .before .before .pre))
+slice-aggregate-write-all c = sym (length-take-le _ _ (c .before .before .before .before .pre))
 
 write-all-requires : tie.Need-write-all-requires
 write-all-requires c κs = search needs
@@ -22,16 +25,17 @@ write-all-requires c κs = search needs
 same-length : tie.Need-same-length
 same-length c = search needs
 
-returns-2 : tie.Need-returns-2
-returns-2 c = (omega arith, none-waits _ _ (c .before .before .before .before .pre) (omega arith))
+returns-3 : tie.Need-returns-3
+returns-3 c = (omega arith, none-waits _ _ (c .before .before .before .before .before .pre) (c .before .before .before .if1 .left))
 
 pub flushed-spec : {M : Type 1} → statement M
 flushed-spec =
     tie.close
     (tie.spec
     returns
+    returns-2
     slice-reshare-prefix-write-all
     slice-aggregate-write-all
     write-all-requires
     same-length
-    returns-2)
+    returns-3)

@@ -4,6 +4,7 @@ use borrow.Author.Needs.{needs}
 use Prim.Native.Nat.{ℕ, _+_, _-_, _≤_, _<_}
 use mathlib.Core.Path.{_≡_, refl, sym, ap, _∙_}
 use native.Mathlib.Omega.{arith}
+use mathlib.Core.Bool.{Bool}
 use mathlib.Core.List.{List}
 use lib.ListN.{length, drop, length-drop}
 use Rattle.terms.specs.Bounds.{seriesRoom, blotterRoom}
@@ -27,16 +28,16 @@ use Rattle.replay.proofs.row.series_rows.Statement.{statement}
 use Rattle.replay.proofs.row.series_rows.Tie as tie
 
 -- the replay that the loop holds
-abbrev state : Book → ℕ → ℕ → Replay
-state book row at = record { book = book; row = row; at = at }
+abbrev state : Book → ℕ → ℕ → Bool → Replay
+state book row at intact = record { book = book; row = row; at = at; intact = intact }
 
 abbrev Inv-loop : tie.InvT-loop
-Inv-loop input start out₀ book₀ row₀ at₀ from₀ out book row at from =
+Inv-loop input start out₀ book₀ row₀ at₀ intact₀ from₀ out book row at intact from =
     (Good book) × (at ≤ 28608) × (start ≤ from) × (from ≤ length input) × (length out ≡ length out₀)
-    × AnsweredUpTo (state book₀ row₀ at₀) out₀ (cut (drop start input) .rows) (state book row at) out (cut (drop from input) .rows)
+    × AnsweredUpTo (state book₀ row₀ at₀ intact₀) out₀ (cut (drop start input) .rows) (state book row at intact) out (cut (drop from input) .rows)
 
 abbrev μ-loop : tie.MeasureT-loop
-μ-loop input start out₀ book₀ row₀ at₀ from₀ out book row at from = length input - from
+μ-loop input start out₀ book₀ row₀ at₀ intact₀ from₀ out book row at intact from = length input - from
 
 -- a step keeps the book good
 stays-good : (b : Book) (e : Event) (s : Step) → Good b → s ≡ stepOf b e → Good (s .book)
@@ -56,13 +57,13 @@ module _ (c : tie.After-known-told Inv-loop μ-loop) where
       (f .0, omega (arith, simp length-drop at (f .1), top .loop .inv .3))
 
 -- what is returned from a turn of the loop
-passed : (l : tie.At-loop Inv-loop μ-loop) (r : Passed) → (r .replay .book ≡ l .loop .book) × (r .replay .at ≡ l .loop .at) × (r .from ≡ l .loop .from) × (r .replay .row ≡ l .loop .row)
+passed : (l : tie.At-loop Inv-loop μ-loop) (r : Passed) → (r .replay .book ≡ l .loop .book) × (r .replay .at ≡ l .loop .at) × (r .from ≡ l .loop .from) × (r .replay .row ≡ l .loop .row) × (r .replay .intact ≡ l .loop .intact)
     → (Good (r .replay .book)) × (r .replay .at ≤ 28608) × (l .before .before .before .before .args .start ≤ r .from) × (r .from ≤ length (l .before .before .before .before .args .input .now))
     × AnsweredUpTo (l .before .before .before .before .args .replay) (l .before .before .before .before .args .out .now)
     (cut (drop (l .before .before .before .before .args .start) (l .before .before .before .before .args .input .now)) .rows)
     (r .replay) (l .loop .out) (cut (drop (r .from) (l .before .before .before .before .args .input .now)) .rows)
 passed l r p =
-    let e : r .replay ≡ state (l .loop .book) (l .loop .row) (l .loop .at) = λ i. record { book = p .0 i; row = p .3 i; at = p .1 i } in
+    let e : r .replay ≡ state (l .loop .book) (l .loop .row) (l .loop .at) (l .loop .intact) = λ i. record { book = p .0 i; row = p .3 i; at = p .1 i; intact = p .4 i } in
     (rw (p .0) (l .loop .inv .0), omega (arith, p .1, l .loop .inv .1), omega (arith, p .2, l .loop .inv .2), omega (arith, p .2, l .loop .inv .3), rw (e, p .2) (l .loop .inv .5))
 
 -- the effect of a row's event, the row, and the turn of the loop
@@ -186,8 +187,8 @@ set-refusal-requires c κs = fits (c .before .before .before .before .before)
 mark-requires : tie.Need-mark-requires Inv-loop μ-loop
 mark-requires c κs = search needs
 
-mul-t26 : tie.Need-mul-t26 Inv-loop μ-loop
-mul-t26 c = omega (arith, room (c .before .before .before .before .before .before .before .before))
+mul-t28 : tie.Need-mul-t28 Inv-loop μ-loop
+mul-t28 c = omega (arith, room (c .before .before .before .before .before .before .before .before))
 
 element-set-from-book : tie.Need-element-set-from-book Inv-loop μ-loop
 element-set-from-book c = room (c .before .before .before .before .before .before .before .before)
@@ -303,7 +304,7 @@ series-rows-spec =
     set-request-requires
     set-refusal-requires
     mark-requires
-    mul-t26
+    mul-t28
     element-set-from-book
     next-record-requires
     mul-next
