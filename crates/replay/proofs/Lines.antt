@@ -110,7 +110,7 @@ lines-append n b (x ∷ xs) ys =
 -- ---- answered rows
 pub none-answered : (s : Replay) (out : List ℕ) → Answered s out [] s out
 unfolding bookAfter waitsAfter
-none-answered s out = record { book = refl; number = ap (λ (m : ℕ). m % 2 ^ 64) (sym (add-zero (s .row))); waits = refl }
+none-answered s out = record { book = refl; number = ap (λ (m : ℕ). m % 2 ^ 64) (sym (add-zero (s .row))); waits = refl; broken = λ h. h }
 
 infixr 5 _then_
 pub _then_ : {s t u : Replay} {before between after : List ℕ} {xs ys : List (List ℕ)}
@@ -120,19 +120,21 @@ _then_ {s} {t} {u} {before} {between} {after} {xs} {ys} a b = record {
   number = omega (arith, a .number, b .number, length-append xs ys);
   waits = b .waits ∙ sym (waits-counted (t .row) (t .book) (take (t .at) between) ys)
       ∙ rw (a .number, a .book, a .waits) (sym (waits-append (s .row) (s .book) (take (s .at) before) xs ys));
+  broken = λ h. b .broken (a .broken h);
 }
 
 -- one row: its lines are put behind what waits, and then it waits on or is written
 module _ {s t : Replay} {before between after row : List ℕ} {next : ℕ} where
   pub row-answered : t .book ≡ bookBy (s .book) (rowOf row) → t .row ≡ (s .row + 1) % 2 ^ 64
       → Put before (s .at) (linesBy (t .row) (s .book) (rowOf row)) between next → next ≤ length before
-      → take (t .at) after ≡ waitsOn (take next between)
+      → take (t .at) after ≡ waitsOn (take next between) → (s .intact ≡ false → t .intact ≡ false)
       → Answered s before (row ∷ []) t after
   unfolding bookAfter waitsAfter
-  row-answered b n p h w = record {
+  row-answered b n p h w k = record {
     book = b;
     number = omega (arith, n);
     waits = w ∙ ap waitsOn (put-behind p h) ∙ rw n refl;
+    broken = k;
   }
 
 -- ---- the first of some rows

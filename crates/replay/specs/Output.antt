@@ -1,5 +1,6 @@
 -- The output between rows: what waits in its buffer, and what was written before.
 use mathlib.Core.Path.{_≡_}
+use mathlib.Core.Bool.{false}
 use mathlib.Core.List.{List, [], _∷_, _++_}
 use Prim.Native.Nat.{ℕ, _+_, _%_, _^_}
 use lib.Dec.{leb}
@@ -34,11 +35,12 @@ writtenAfter n b text (row ∷ rows) =
     ++ writtenAfter ((n + 1) % 2 ^ 64) (bookBy b (rowOf row)) (waitsOn (text ++ linesBy ((n + 1) % 2 ^ 64) b (rowOf row))) rows
 
 -- Rows are answered: from a replay and its buffer of output to another, the book, the number of the last row and what waits are
--- those after these rows.
+-- those after these rows; and output that was broken off is not taken up again.
 pub record Answered (from : Replay) (before : List ℕ) (rows : List (List ℕ)) (to : Replay) (after : List ℕ) : Type 0 where
   pub book : to .book ≡ bookAfter (from .book) rows
   pub number : to .row % 2 ^ 64 ≡ numberAfter (from .row) rows
   pub waits : take (to .at) after ≡ waitsAfter (from .row) (from .book) (take (from .at) before) rows
+  pub broken : from .intact ≡ false → to .intact ≡ false
 
 -- the first of some rows are answered, and the others are left
 pub record AnsweredUpTo (from : Replay) (before : List ℕ) (rows : List (List ℕ)) (to : Replay) (after : List ℕ) (left : List (List ℕ)) : Type 0 where

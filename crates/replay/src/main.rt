@@ -10,6 +10,7 @@ use row::flushed;
 use row::whole_rows;
 use rows::cut;
 ghost use Prim.Native.Nat.{_≤_};
+ghost use mathlib.Core.Path.{_≡_};
 ghost use lib.ListN.{length, take};
 ghost use Rattle.book.specs.Good.{Good};
 ghost use Rattle.rows.specs.Cut.{cut, lastRow};
@@ -58,7 +59,7 @@ pub struct Run {
 // The rows that end in the buffer, whose input goes up to a place.
 fn pass(buf: &mut [u8], out: &mut [u8], replay: Replay, end: usize) -> Run
     requires { ⌜ (Good (replay .book)) × (replay .at ≤ 28608) × (65536 ≤ length (now out)) × (end ≤ length (now buf)) ⌝ }
-    ensures { λ r. ⌜ (Good (r .replay .book)) × (r .replay .at ≤ 28608) × (r .have ≤ length (now (buf .entry))) × Answered replay (now (out .entry)) (cut (take end (now (buf .entry))) .rows) (r .replay) (now (out .exit)) ⌝ }
+    ensures { λ r. ⌜ (Good (r .replay .book)) × (r .replay .at ≤ 28608) × (r .have ≤ length (now (buf .entry))) × Answered replay (now (out .entry)) (cut (take end (now (buf .entry))) .rows) (r .replay) (now (out .exit)) × (r .going ≡ r .replay .intact) ⌝ }
 {
     let passed = whole_rows(&buf[..end], out, replay);
     let left = keep(buf, passed.from, end);

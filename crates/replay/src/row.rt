@@ -24,8 +24,7 @@ ghost use Rattle.rows.specs.Row.{rowOf};
 ghost use Rattle.replay.specs.Output.{waitsOn, Answered, AnsweredUpTo};
 ghost use Rattle.replay.specs.Rows.{bookBy, linesBy};
 
-// The book, the rows answered so far, the bytes of output that wait to be written, and whether the output before them
-// is whole.
+// The book, the rows answered so far, the bytes of output that wait to be written, and whether all before them were.
 pub struct Replay {
     pub book: Book,
     pub row: u64,
@@ -33,7 +32,7 @@ pub struct Replay {
     pub intact: bool,
 }
 
-// The last two alone.
+// What waits of the output, and whether the output before it is whole.
 pub struct Waiting {
     pub at: usize,
     pub intact: bool,
@@ -84,7 +83,7 @@ fn session_row(
     event: Event,
 ) -> Replay
     requires { ⌜ (Good book) × (at + 36928 ≤ length (now out)) ⌝ }
-    ensures { λ r. ⌜ (Good (r .book)) × (r .at ≤ at + 36928) × (r .row ≡ row) × (r .book ≡ stepOf book event .book) × Put (now (out .entry)) at (reportOf row (book .series) (stepOf book event)) (now (out .exit)) (r .at) ⌝ }
+    ensures { λ r. ⌜ (Good (r .book)) × (r .at ≤ at + 36928) × (r .row ≡ row) × (r .book ≡ stepOf book event .book) × Put (now (out .entry)) at (reportOf row (book .series) (stepOf book event)) (now (out .exit)) (r .at) × (r .intact ≡ intact) ⌝ }
 {
     let before = book.series;
     let step = book::step(book, event);
@@ -101,7 +100,7 @@ fn session_row(
 // An event that is no session: its step, and its answer, which is all its report.
 fn event_row(out: &mut [u8], at: usize, intact: bool, row: u64, book: Book, event: Event) -> Replay
     requires { ⌜ (Good book) × (at + 36928 ≤ length (now out)) × (isSession event ≡ false) ⌝ }
-    ensures { λ r. ⌜ (Good (r .book)) × (r .at ≤ at + 36928) × (r .row ≡ row) × (r .book ≡ stepOf book event .book) × Put (now (out .entry)) at (reportOf row (book .series) (stepOf book event)) (now (out .exit)) (r .at) ⌝ }
+    ensures { λ r. ⌜ (Good (r .book)) × (r .at ≤ at + 36928) × (r .row ≡ row) × (r .book ≡ stepOf book event .book) × Put (now (out .entry)) at (reportOf row (book .series) (stepOf book event)) (now (out .exit)) (r .at) × (r .intact ≡ intact) ⌝ }
 {
     let step = book::step(book, event);
     let answer = step.answer;
@@ -118,7 +117,7 @@ fn event_row(out: &mut [u8], at: usize, intact: bool, row: u64, book: Book, even
 // One row: its event is carried out or refused, and its lines are written.
 pub fn answer_row(bytes: &[u8], out: &mut [u8], replay: Replay) -> Replay
     requires { ⌜ (Good (replay .book)) × (replay .at + 36928 ≤ length (now out)) ⌝ }
-    ensures { λ r. ⌜ (Good (r .book)) × (r .at ≤ replay .at + 36928) × (r .row ≡ (replay .row + 1) % 2 ^ 64) × (r .book ≡ bookBy (replay .book) (rowOf (now (bytes .entry)))) × Put (now (out .entry)) (replay .at) (linesBy (r .row) (replay .book) (rowOf (now (bytes .entry)))) (now (out .exit)) (r .at) ⌝ }
+    ensures { λ r. ⌜ (Good (r .book)) × (r .at ≤ replay .at + 36928) × (r .row ≡ (replay .row + 1) % 2 ^ 64) × (r .book ≡ bookBy (replay .book) (rowOf (now (bytes .entry)))) × Put (now (out .entry)) (replay .at) (linesBy (r .row) (replay .book) (rowOf (now (bytes .entry)))) (now (out .exit)) (r .at) × (r .intact ≡ replay .intact) ⌝ }
 {
     let row = std::num::wrapping_add_u64(replay.row, 1);
     let book = replay.book;
@@ -144,13 +143,13 @@ pub fn answer_row(bytes: &[u8], out: &mut [u8], replay: Replay) -> Replay
 }
 
 // Room for the lines of one more row: where there is none, what waits is written. Once that fails nothing more is.
-pub fn flushed(out: &mut [u8], at: usize, intact: bool) -> Waiting
-    requires { ⌜ at ≤ length (now out) ⌝ }
-    ensures { λ r. ⌜ (r .at ≤ 28608) × (take (r .at) (now (out .exit)) ≡ waitsOn (take at (now (out .entry)))) ⌝ }
+pub fn flushed(out: &mut [u8], end: usize, intact: bool) -> Waiting
+    requires { ⌜ end ≤ length (now out) ⌝ }
+    ensures { λ r. ⌜ (r .at ≤ 28608) × (take (r .at) (now (out .exit)) ≡ waitsOn (take end (now (out .entry)))) × (intact ≡ false → r .intact ≡ false) ⌝ }
 {
-    if at <= 28608 {
+    if end <= 28608 {
         return Waiting {
-            at: at,
+            at: end,
             intact: intact,
         };
     }
@@ -160,7 +159,7 @@ pub fn flushed(out: &mut [u8], at: usize, intact: bool) -> Waiting
             intact: false,
         };
     }
-    let written = io::write_all(1, &out[..at]);
+    let written = io::write_all(1, &out[..end]);
     Waiting {
         at: 0,
         intact: written,

@@ -1,5 +1,5 @@
 -- `replay::last_row` meets its contract.
-use mathlib.Core.Path.{sym}
+use mathlib.Core.Path.{sym, _∙_}
 use native.Mathlib.Omega.{arith}
 use lib.ListN.{take}
 use lib.Seq.{length-take-le}
@@ -35,7 +35,7 @@ returns-2 c =
       omega (arith, f .ensures .0),
       omega arith,
       last-some (take (s .args .have) (s .args .buf .now)) (omega (arith, long, c .before .before .before .before .before .before .before .before .before .if1 .left))
-          (row-answered {next = a .result .at} (a .ensures .3) (a .ensures .2) (a .ensures .4) (omega (arith, a .ensures .1, s .pre .1, s .pre .2)) (f .ensures .1)),
+          (row-answered {next = a .result .at} (a .ensures .3) (a .ensures .2) (a .ensures .4) (omega (arith, a .ensures .1, s .pre .1, s .pre .2)) (f .ensures .1) (λ h. f .ensures .2 (a .ensures .5 ∙ h))),
     )
 
 pub last-row-spec : {M : Type 1} → statement M

@@ -1,5 +1,5 @@
 -- `replay::row::answer_row` meets its contract: a row is its event, or is refused.
-use mathlib.Core.Path.{sym, _∙_}
+use mathlib.Core.Path.{refl, sym, _∙_}
 use native.Mathlib.Omega.{arith}
 use Rattle.replay.proofs.Books.{book-refused, book-accepted, lines-refused, lines-accepted}
 use borrow.Author.Needs.{needs}
@@ -39,7 +39,7 @@ returns c =
     let w = c .before .before .before .before .before .before .before .before .before .before .before .wrapping-add-u64 in
     let q = sym (c .before .before .before .before .before .before .before .before .before .read-row .ensures) ∙ c .before .before .before .before .before .before .before .event .given .1 in
     let e = c .before .before .session-row .ensures in
-    (e .0, e .1, e .2 ∙ w .ensures, e .3 ∙ book-accepted b q, rw (e .2, ← lines-accepted b (w .result) q) (e .4))
+    (e .0, e .1, e .2 ∙ w .ensures, e .3 ∙ book-accepted b q, rw (e .2, ← lines-accepted b (w .result) q) (e .4), e .5)
 
 event-row-requires : tie.Need-event-row-requires
 event-row-requires c κs = let s = c .before .before .before .before .before .before .before .before .before .before .before in (s .pre .0, s .pre .1, sym (c .before .before .is-session .ensures) ∙ c .before .if1 .left)
@@ -54,7 +54,7 @@ returns-2 c =
     let w = c .before .before .before .before .before .before .before .before .before .before .wrapping-add-u64 in
     let q = sym (c .before .before .before .before .before .before .before .before .read-row .ensures) ∙ c .before .before .before .before .before .before .why .given .1 in
     let p = c .before .before .answer .ensures in
-    (s .pre .0, omega (arith, p .1), w .ensures, book-refused b q, rw (← lines-refused b (w .result) q, ← c .before .before .before .of-row .ensures) (p .0))
+    (s .pre .0, omega (arith, p .1), w .ensures, book-refused b q, rw (← lines-refused b (w .result) q, ← c .before .before .before .of-row .ensures) (p .0), refl)
 
 same-length-3 : tie.Need-same-length-3
 same-length-3 c = search needs
@@ -65,7 +65,7 @@ returns-3 c =
     let w = c .before .before .before .before .before .before .before .before .before .before .before .wrapping-add-u64 in
     let q = sym (c .before .before .before .before .before .before .before .before .before .read-row .ensures) ∙ c .before .before .before .before .before .before .before .event .given .1 in
     let e = c .before .before .event-row .ensures in
-    (e .0, e .1, e .2 ∙ w .ensures, e .3 ∙ book-accepted b q, rw (e .2, ← lines-accepted b (w .result) q) (e .4))
+    (e .0, e .1, e .2 ∙ w .ensures, e .3 ∙ book-accepted b q, rw (e .2, ← lines-accepted b (w .result) q) (e .4), e .5)
 
 pub answer-row-spec : {M : Type 1} → statement M
 answer-row-spec =

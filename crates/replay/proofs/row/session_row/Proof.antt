@@ -18,7 +18,7 @@ returns : tie.Need-returns
 returns c =
     let s = c .before .before .before .before .before .step .ensures in
     let p = c .before .before .before .report .ensures in
-    (s .1, p .1, refl, ap (λ (x : Step). x .book) (s .0), rw (← s .0) (p .0))
+    (s .1, p .1, refl, ap (λ (x : Step). x .book) (s .0), rw (← s .0) (p .0), refl)
 
 pub session-row-spec : {M : Type 1} → statement M
 session-row-spec = tie.close (tie.spec step-requires report-requires same-length returns)

@@ -129,7 +129,7 @@ loop-again c =
       ends k .1,
       omega (arith, a .kept .1, f .kept .0, r .kept .1, top k .loop .inv .3),
       next-answered (input k) (r .result .from) (k .before .before .before .row-end .ensures) (up-to-more (top k .loop .inv .4) (r .ensures .4)) end (k .before .end .given .1)
-          (row-answered {next = a .result .at} (a .ensures .3) (a .ensures .2) (a .ensures .4) (omega (arith, a .ensures .1, r .ensures .1, r .kept .1, room k)) (f .ensures .1)),
+          (row-answered {next = a .result .at} (a .ensures .3) (a .ensures .2) (a .ensures .4) (omega (arith, a .ensures .1, r .ensures .1, r .kept .1, room k)) (f .ensures .1) (λ h. f .ensures .2 (a .ensures .5 ∙ h))),
     )
 
 pub whole-rows-spec : {M : Type 1} → statement M
