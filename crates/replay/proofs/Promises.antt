@@ -12,8 +12,8 @@ use Rattle.replay.specs.Rows.{bookAfter, numberAfter, linesAfter}
 use Rattle.replay.specs.declared.row.Replay.{Replay}
 use Rattle.replay.proofs.Lines.{book-append, output-after, lines-counted, lines-append}
 
--- No line is lost and none is added: what waited and the lines of all rows are what was written, what waits now, and the lines of the
--- rows that are left.
+-- No line is lost and none is added: what waited and the lines of all rows are what went out, what waits now, and the lines of the rows
+-- that are left.
 pub no-line-lost : {s t : Replay} {before after : List ℕ} {rows left : List (List ℕ)} (a : AnsweredUpTo s before rows t after left)
     → take (s .at) before ++ linesAfter (s .row) (s .book) rows
     ≡ writtenAfter (s .row) (s .book) (take (s .at) before) (a .first) ++ (take (t .at) after ++ linesAfter (t .row) (t .book) left)
@@ -37,7 +37,7 @@ module _ {s t : Replay} {before after : List ℕ} {rows left : List (List ℕ)} 
   pub same-number : numberAfter (s .row) rows ≡ numberAfter (t .row) left
   same-number = omega (arith, ap length (a .all), length-append (a .first) left, a .answered .number)
 
--- All that is written, and then what waits at the end, are the header and the lines of rows, numbered from 1, from an empty book on.
+-- All that went out, and then what waits at the end, are the header and the lines of rows, numbered from 1, from an empty book on.
 pub whole-output : {out : List ℕ} {at : ℕ} (r : Replayed out at)
     → header ++ linesAfter 0 emptyBook (r .rows) ≡ writtenAfter 0 emptyBook header (r .rows) ++ take at out
 whole-output r = output-after 0 emptyBook header (r .rows) ∙ ap (λ (x : List ℕ). writtenAfter 0 emptyBook header (r .rows) ++ x) (sym (r .waits))

@@ -1,4 +1,4 @@
--- The output between rows: what waits in its buffer, and what was written before.
+-- The output between rows: what waits in its buffer, and what went out before it. Where writing fails no more goes out.
 use mathlib.Core.Path.{_≡_}
 use mathlib.Core.Bool.{false}
 use mathlib.Core.List.{List, [], _∷_, _++_}
@@ -27,7 +27,7 @@ waitsAfter n b text [] = text
 waitsAfter n b text (row ∷ rows) =
     waitsAfter ((n + 1) % 2 ^ 64) (bookBy b (rowOf row)) (waitsOn (text ++ linesBy ((n + 1) % 2 ^ 64) b (rowOf row))) rows
 
--- and what was written by then
+-- and what went out by then
 unfoldable pub writtenAfter : ℕ → Book → List ℕ → List (List ℕ) → List ℕ
 writtenAfter n b text [] = []
 writtenAfter n b text (row ∷ rows) =

@@ -9,6 +9,7 @@ use borrow.Author.Needs.{needs}
 use Rattle.replay.proofs.row.flushed.Statement.{statement}
 use Rattle.replay.proofs.row.flushed.Tie as tie
 
+-- a test that was left
 unbroken : (b : Bool) → not b ≡ false → b ≡ false → ⊥
 unbroken true p q = let z : _≡_ {A = ℕ} 0 1 = cc in omega arith
 unbroken false p q = let z : _≡_ {A = ℕ} 0 1 = cc in omega arith
