@@ -32,7 +32,8 @@ listVerdict day strike tick last =
 unfoldable pub passesLimit : ℤ → Bool
 passesLimit position = ltb maxPosition (natAbs position)
 
--- a trade of quantity q at price p between buyer x and seller y
+-- a trade of quantity q at price p between buyer x and seller y: 3 expired, 4 unknown account, 5 own trade, 6 size, 7 price (outside its
+-- bounds, or no multiple of R), 8 position limit (of either side)
 abbrev pub tradeVerdict : Listing → List ℤ → ℕ → ℕ → ℕ → ℕ → ℕ → Verdict
 tradeVerdict l positions day x y q p =
     choose (pastLast l day) (Refused Expired)
@@ -52,7 +53,8 @@ unfoldable pub tooEarly : Category → ℕ → ℕ → Bool
 tooEarly American day last = false
 tooEarly European day last = ltb day last
 
--- account a's request to exercise q contracts; 13, not held: the request is above the position, counted as 0 if short
+-- account a's request to exercise q contracts: 3 expired, 4 unknown account, 12 not today, 13 not held (the request is above the position,
+-- counted as 0 if short)
 abbrev pub exerciseVerdict : Listing → List ℤ → ℕ → ℕ → ℕ → Verdict
 exerciseVerdict l positions day a q =
     choose (pastLast l day) (Refused Expired)
@@ -61,7 +63,7 @@ exerciseVerdict l positions day a q =
     (choose (ltb (held (positionIn positions a)) q) (Refused NotHeld)
     Allowed)))
 
--- account a's refusal; 12, not today: any decline before the last day
+-- account a's refusal: 3 expired, 4 unknown account, 12 not today (any decline before the last day)
 abbrev pub declineVerdict : Listing → ℕ → ℕ → Verdict
 declineVerdict l day a =
     choose (pastLast l day) (Refused Expired)
@@ -69,7 +71,7 @@ declineVerdict l day a =
     (choose (ltb day (l .last)) (Refused NotToday)
     Allowed))
 
--- a mark of option price p, futures price f and tick value w; 14, tick value: W, or c, outside 1 to 200,000,000
+-- a mark of option price p, futures price f and tick value w: 3 expired, 7 price, 14 tick value (W, or c, outside 1 to 200,000,000)
 abbrev pub markVerdict : Listing → ℕ → ℕ → ℕ → ℕ → Verdict
 markVerdict l day p f w =
     choose (pastLast l day) (Refused Expired)
