@@ -8,13 +8,13 @@ use Rattle.book.specs.Good.{Good}
 use Rattle.book.specs.Step.{stepOf}
 use Rattle.book.specs.declared.state.Step.{Step}
 use Rattle.book.proofs.Effects.{next-record-within, effect-fits, step-stored}
-use Rattle.book.proofs.Keeps.{good-step}
+use Rattle.book.proofs.Keeps.{stays-good}
 use borrow.Author.Needs.{needs}
 use Rattle.book.proofs.step.Statement.{statement}
 use Rattle.book.proofs.step.Tie as tie
 
 stepped : (c : tie.Start) {r : Step} → r ≡ stepOf (c .args .t1) (c .args .event) → (r ≡ stepOf (c .args .t1) (c .args .event)) × Good (r .book)
-stepped c is = (is, rw is (good-step (c .args .t1) (c .pre) (c .args .event)))
+stepped c is = (is, stays-good (c .args .t1) (c .args .event) _ (c .pre) is)
 
 -- where the effect is known
 abbrev start : tie.After-effect → tie.Start

@@ -10,12 +10,11 @@ use lib.ListN.{length, drop, length-drop}
 use Rattle.terms.specs.Bounds.{seriesRoom, blotterRoom}
 use Rattle.book.specs.Effects.{Fits}
 use Rattle.book.specs.Good.{Good}
-use Rattle.book.specs.Step.{stepOf}
 use Rattle.book.specs.Verdicts.{seriesOf}
 use Rattle.book.specs.declared.state.Book.{Book}
 use Rattle.book.specs.declared.state.Event.{Event}
 use Rattle.book.specs.declared.state.Step.{Step}
-use Rattle.book.proofs.Keeps.{good-step}
+use Rattle.book.proofs.Keeps.{stays-good}
 use Rattle.book.proofs.Effects.{next-record-within, effect-fits, step-stored}
 use Rattle.rows.specs.Cut.{cut}
 use Rattle.rows.proofs.Ends.{end-fits}
@@ -38,10 +37,6 @@ Inv-loop input start out₀ book₀ row₀ at₀ intact₀ from₀ out book row 
 
 abbrev μ-loop : tie.MeasureT-loop
 μ-loop input start out₀ book₀ row₀ at₀ intact₀ from₀ out book row at intact from = length input - from
-
--- a step keeps the book good
-stays-good : (b : Book) (e : Event) (s : Step) → Good b → s ≡ stepOf b e → Good (s .book)
-stays-good b e s g p = rw p (good-step b g e)
 
 -- where a row that was found ends
 module _ (c : tie.After-known-told Inv-loop μ-loop) where
