@@ -4,6 +4,8 @@
 use std::fs::{self, File};
 use std::io::{self, Read, Write};
 use std::ops::Range;
+use std::os::fd::AsRawFd;
+use std::os::raw::c_int;
 use std::path::PathBuf;
 use std::process::{Child, Command, ExitCode, ExitStatus, Stdio};
 use std::sync::mpsc;
@@ -48,6 +50,8 @@ fn main() -> ExitCode {
     }
     let result = comparison.closed_output();
     comparison.count("closed output", result);
+    let result = comparison.failed_write();
+    comparison.count("failed write", result);
     let result = comparison.read_error();
     comparison.count("read error", result);
     println!("{} passed, {} failed", comparison.passed, comparison.failed);
@@ -161,6 +165,34 @@ impl Comparison {
         Err("it runs on".into())
     }
 
+    /// After a write that fails nothing more is written, though it could be: what is there is the beginning of the output.
+    fn failed_write(&self) -> Result<(), String> {
+        let rows = b"I\r\n".repeat(60_000);
+        let mut expected = Vec::new();
+        replay(rows.repeat(2).as_slice(), &mut expected).expect("memory can be read and written");
+        let (mut reader, writer) = io::pipe().map_err(|error| error.to_string())?;
+        fail_when_full(&writer).map_err(|error| error.to_string())?;
+        let child = Command::new(&self.program).stdin(Stdio::piped()).stdout(writer).spawn();
+        let mut child = child.map_err(|error| error.to_string())?;
+        let mut pipe = child.stdin.take().expect("it was asked for");
+        // Longer than a pipe holds: once it is sent, the program has gone through most of it, and its output was full.
+        let _ = pipe.write_all(&rows);
+        let mut output = vec![0; expected.len()];
+        let room = reader.read(&mut output).map_err(|error| error.to_string())?;
+        output.truncate(room);
+        let _ = pipe.write_all(&rows);
+        drop(pipe);
+        child.wait().map_err(|error| error.to_string())?;
+        reader.read_to_end(&mut output).map_err(|error| error.to_string())?;
+        if !expected.starts_with(&output) {
+            return Err("it went on after a gap".into());
+        }
+        if output.len() == expected.len() {
+            return Err("no write failed".into());
+        }
+        Ok(())
+    }
+
     /// An input that can't be read, as a directory can't, gives the header alone.
     fn read_error(&self) -> Result<(), String> {
         let directory = File::open(&self.directory).map_err(|error| error.to_string())?;
@@ -173,6 +205,20 @@ impl Comparison {
         }
         Ok(())
     }
+}
+
+/// Lets a write to a full pipe fail and not wait.
+fn fail_when_full(pipe: &io::PipeWriter) -> io::Result<()> {
+    extern "C" {
+        fn fcntl(file: c_int, command: c_int, ...) -> c_int;
+    }
+    const F_SETFL: c_int = 4;
+    const O_NONBLOCK: c_int = 0o4000;
+    // SAFETY: the call takes numbers only, and the file is open.
+    if unsafe { fcntl(pipe.as_raw_fd(), F_SETFL, O_NONBLOCK) } < 0 {
+        return Err(io::Error::last_os_error());
+    }
+    Ok(())
 }
 
 /// Reads the child's output to its end, but with an end to patience.
