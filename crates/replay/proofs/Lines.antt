@@ -18,7 +18,7 @@ use Rattle.rows.specs.Cut.{Cut, cut, endFrom, lastRow}
 use Rattle.rows.specs.Row.{rowOf}
 use Rattle.rows.specs.declared.types.End.{End}
 use Rattle.rows.specs.declared.types.End.the-variants.{At, NoEnd}
-use Rattle.rows.proofs.Ends.{next-row, no-row}
+use Rattle.rows.proofs.Ends.{rowBefore, next-row, no-row}
 use Rattle.replay.specs.Rows.{bookBy, bookAfter, numberAfter, linesBy, linesAfter}
 use Rattle.replay.specs.Output.{waitsOn, goesOut, waitsAfter, writtenAfter, Answered, AnsweredUpTo, AnsweredSome, Replayed}
 use Rattle.replay.specs.declared.row.Replay.{Replay}
@@ -138,34 +138,35 @@ module _ {s t : Replay} {before between after row : List ℕ} {next : ℕ} where
   }
 
 -- ---- the first of some rows
-module _ {s t : Replay} {before between : List ℕ} {rows : List (List ℕ)} where
-  pub up-to-more : {u : Replay} {after : List ℕ} {more left : List (List ℕ)} → AnsweredUpTo s before rows t between more
-      → AnsweredUpTo t between more u after left → AnsweredUpTo s before rows u after left
+module _ {s t : Replay} {before between : List ℕ} {k : Cut} where
+  pub up-to-more : {u : Replay} {after : List ℕ} {more left : Cut} → AnsweredUpTo s before k t between more
+      → AnsweredUpTo t between more u after left → AnsweredUpTo s before k u after left
   up-to-more {left = left} a b = record {
     first = a .first ++ b .first;
-    all = a .all ∙ ap (λ (x : List (List ℕ)). a .first ++ x) (b .all) ∙ sym (append-assoc (a .first) (b .first) left);
+    all = a .all ∙ ap (λ (x : List (List ℕ)). a .first ++ x) (b .all) ∙ sym (append-assoc (a .first) (b .first) (left .rows));
+    unfinished = a .unfinished ∙ b .unfinished;
     answered = a .answered then b .answered;
   }
 
-  pub up-to-next : {u : Replay} {after row : List ℕ} {left : List (List ℕ)} → AnsweredUpTo s before rows t between (row ∷ left)
-      → Answered t between (row ∷ []) u after → AnsweredUpTo s before rows u after left
-  up-to-next {row = row} a b = up-to-more a (record { first = row ∷ []; all = refl; answered = b })
+  pub up-to-next : {u : Replay} {after row : List ℕ} {left : Cut} → AnsweredUpTo s before k t between (rowBefore row left)
+      → Answered t between (row ∷ []) u after → AnsweredUpTo s before k u after left
+  up-to-next {row = row} a b = up-to-more a (record { first = row ∷ []; all = refl; unfinished = refl; answered = b })
 
-  pub up-to-all : AnsweredUpTo s before rows t between [] → Answered s before rows t between
-  up-to-all a = rw (a .all, append-nil (a .first)) (a .answered)
+  pub up-to-all : {rest : List ℕ} → AnsweredUpTo s before k t between (record { rows = []; rest = rest }) → (rest ≡ k .rest) × Answered s before (k .rows) t between
+  up-to-all a = (sym (a .unfinished), rw (a .all, append-nil (a .first)) (a .answered))
 
-pub up-to-none : (s : Replay) (out : List ℕ) (rows : List (List ℕ)) → AnsweredUpTo s out rows s out rows
-up-to-none s out rows = record { first = []; all = refl; answered = none-answered s out }
+pub up-to-none : (s : Replay) (out : List ℕ) (k : Cut) → AnsweredUpTo s out k s out k
+up-to-none s out k = record { first = []; all = refl; unfinished = refl; answered = none-answered s out }
 
 -- the same in a buffer of input from a place on, by what the search for the next row answered
-module _ (input : List ℕ) (from : ℕ) {r : End} (p : r ≡ endFrom input from) {s t : Replay} {before between : List ℕ} {rows : List (List ℕ)}
-    (a : AnsweredUpTo s before rows t between (cut (drop from input) .rows)) where
+module _ (input : List ℕ) (from : ℕ) {r : End} (p : r ≡ endFrom input from) {s t : Replay} {before between : List ℕ} {k : Cut}
+    (a : AnsweredUpTo s before k t between (cut (drop from input))) where
   pub next-answered : (end : ℕ) → r ≡ At end → {u : Replay} {after : List ℕ} → Answered t between (take (end - from) (drop from input) ∷ []) u after
-      → AnsweredUpTo s before rows u after (cut (drop (end + 2) input) .rows)
-  next-answered end q b = up-to-next (rw (ap (λ (k : Cut). k .rows) (next-row input from r p end q)) at a) b
+      → AnsweredUpTo s before k u after (cut (drop (end + 2) input))
+  next-answered end q b = up-to-next (rw (next-row input from r p end q) at a) b
 
-  pub all-answered : r ≡ NoEnd → Answered s before rows t between
-  all-answered q = up-to-all (rw (ap (λ (k : Cut). k .rows) (no-row input from r p q)) at a)
+  pub all-answered : r ≡ NoEnd → (drop from input ≡ k .rest) × Answered s before (k .rows) t between
+  all-answered q = up-to-all (rw (no-row input from r p q) at a)
 
 -- ---- rows that the input had
 pub some-more : {s t u : Replay} {before between after : List ℕ} → AnsweredSome s before t between → AnsweredSome t between u after → AnsweredSome s before u after

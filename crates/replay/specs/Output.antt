@@ -9,6 +9,7 @@ use Rattle.choice.specs.Choice.{choose}
 use Rattle.book.specs.State.{emptyBook}
 use Rattle.book.specs.declared.state.Book.{Book}
 use Rattle.report.specs.Lines.{header}
+use Rattle.rows.specs.Cut.{Cut}
 use Rattle.rows.specs.Row.{rowOf}
 use Rattle.replay.specs.Rows.{bookBy, bookAfter, numberAfter, linesBy}
 use Rattle.replay.specs.declared.row.Replay.{Replay}
@@ -42,10 +43,11 @@ pub record Answered (from : Replay) (before : List ℕ) (rows : List (List ℕ))
   pub waits : take (to .at) after ≡ waitsAfter (from .row) (from .book) (take (from .at) before) rows
   pub broken : from .intact ≡ false → to .intact ≡ false
 
--- the first of some rows are answered, and the others are left
-pub record AnsweredUpTo (from : Replay) (before : List ℕ) (rows : List (List ℕ)) (to : Replay) (after : List ℕ) (left : List (List ℕ)) : Type 0 where
+-- the first rows of some input are answered, and the others are left, with the same unfinished row behind them
+pub record AnsweredUpTo (from : Replay) (before : List ℕ) (input : Cut) (to : Replay) (after : List ℕ) (left : Cut) : Type 0 where
   pub first : List (List ℕ)
-  pub all : rows ≡ first ++ left
+  pub all : input .rows ≡ first ++ left .rows
+  pub unfinished : input .rest ≡ left .rest
   pub answered : Answered from before first to after
 
 -- rows that the input had

@@ -170,7 +170,7 @@ pub fn flushed(out: &mut [u8], end: usize, intact: bool) -> Waiting
 // row changes one series of it, and the blotter.
 fn series_rows(input: &[u8], start: usize, out: &mut [u8], replay: Replay) -> Passed
     requires { ⌜ (Good (replay .book)) × (replay .at ≤ 28608) × (65536 ≤ length (now out)) × (start ≤ length (now input)) ⌝ }
-    ensures { λ r. ⌜ (Good (r .replay .book)) × (r .replay .at ≤ 28608) × (start ≤ r .from) × (r .from ≤ length (now (input .entry))) × AnsweredUpTo replay (now (out .entry)) (cut (drop start (now (input .entry))) .rows) (r .replay) (now (out .exit)) (cut (drop (r .from) (now (input .entry))) .rows) ⌝ }
+    ensures { λ r. ⌜ (Good (r .replay .book)) × (r .replay .at ≤ 28608) × (start ≤ r .from) × (r .from ≤ length (now (input .entry))) × AnsweredUpTo replay (now (out .entry)) (cut (drop start (now (input .entry)))) (r .replay) (now (out .exit)) (cut (drop (r .from) (now (input .entry)))) ⌝ }
 {
     let mut book = replay.book;
     let mut row = replay.row;
@@ -223,7 +223,7 @@ fn series_rows(input: &[u8], start: usize, out: &mut [u8], replay: Replay) -> Pa
 // The rows of a buffer that end in it.
 pub fn whole_rows(input: &[u8], out: &mut [u8], replay: Replay) -> Passed
     requires { ⌜ (Good (replay .book)) × (replay .at ≤ 28608) × (65536 ≤ length (now out)) ⌝ }
-    ensures { λ r. ⌜ (Good (r .replay .book)) × (r .replay .at ≤ 28608) × (r .from ≤ length (now (input .entry))) × (cut (drop (r .from) (now (input .entry))) .rows ≡ []) × Answered replay (now (out .entry)) (cut (now (input .entry)) .rows) (r .replay) (now (out .exit)) ⌝ }
+    ensures { λ r. ⌜ (Good (r .replay .book)) × (r .replay .at ≤ 28608) × (r .from ≤ length (now (input .entry))) × (cut (drop (r .from) (now (input .entry))) .rows ≡ []) × (drop (r .from) (now (input .entry)) ≡ cut (now (input .entry)) .rest) × Answered replay (now (out .entry)) (cut (now (input .entry)) .rows) (r .replay) (now (out .exit)) ⌝ }
 {
     let mut now = replay;
     let mut from = 0;

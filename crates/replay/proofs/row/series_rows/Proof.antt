@@ -33,7 +33,7 @@ state book row at intact = record { book = book; row = row; at = at; intact = in
 abbrev Inv-loop : tie.InvT-loop
 Inv-loop input start out₀ book₀ row₀ at₀ intact₀ from₀ out book row at intact from =
     (Good book) × (at ≤ 28608) × (start ≤ from) × (from ≤ length input) × (length out ≡ length out₀)
-    × AnsweredUpTo (state book₀ row₀ at₀ intact₀) out₀ (cut (drop start input) .rows) (state book row at intact) out (cut (drop from input) .rows)
+    × AnsweredUpTo (state book₀ row₀ at₀ intact₀) out₀ (cut (drop start input)) (state book row at intact) out (cut (drop from input))
 
 abbrev μ-loop : tie.MeasureT-loop
 μ-loop input start out₀ book₀ row₀ at₀ intact₀ from₀ out book row at intact from = length input - from
@@ -55,8 +55,8 @@ module _ (c : tie.After-known-told Inv-loop μ-loop) where
 passed : (l : tie.At-loop Inv-loop μ-loop) (r : Passed) → (r .replay .book ≡ l .loop .book) × (r .replay .at ≡ l .loop .at) × (r .from ≡ l .loop .from) × (r .replay .row ≡ l .loop .row) × (r .replay .intact ≡ l .loop .intact)
     → (Good (r .replay .book)) × (r .replay .at ≤ 28608) × (l .before .before .before .before .args .start ≤ r .from) × (r .from ≤ length (l .before .before .before .before .args .input .now))
     × AnsweredUpTo (l .before .before .before .before .args .replay) (l .before .before .before .before .args .out .now)
-    (cut (drop (l .before .before .before .before .args .start) (l .before .before .before .before .args .input .now)) .rows)
-    (r .replay) (l .loop .out) (cut (drop (r .from) (l .before .before .before .before .args .input .now)) .rows)
+    (cut (drop (l .before .before .before .before .args .start) (l .before .before .before .before .args .input .now)))
+    (r .replay) (l .loop .out) (cut (drop (r .from) (l .before .before .before .before .args .input .now)))
 passed l r p =
     let e : r .replay ≡ state (l .loop .book) (l .loop .row) (l .loop .at) (l .loop .intact) = λ i. record { book = p .0 i; row = p .3 i; at = p .1 i; intact = p .4 i } in
     (rw (p .0) (l .loop .inv .0), omega (arith, p .1, l .loop .inv .1), omega (arith, p .2, l .loop .inv .2), omega (arith, p .2, l .loop .inv .3), rw (e, p .2) (l .loop .inv .5))

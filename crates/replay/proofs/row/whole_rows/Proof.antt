@@ -16,7 +16,7 @@ use Rattle.replay.proofs.row.whole_rows.Tie as tie
 abbrev Inv-loop : tie.InvT-loop
 Inv-loop input out₀ now₀ from₀ out now from =
     (Good (now .book)) × (now .at ≤ 28608) × (from ≤ length input) × (length out ≡ length out₀)
-    × AnsweredUpTo now₀ out₀ (cut input .rows) now out (cut (drop from input) .rows)
+    × AnsweredUpTo now₀ out₀ (cut input) now out (cut (drop from input))
 
 abbrev μ-loop : tie.MeasureT-loop
 μ-loop input out₀ now₀ from₀ out now from = length input - from
@@ -82,7 +82,8 @@ returns c =
       r .ensures .1,
       r .ensures .3,
       ap (λ (k : Cut). k .rows) (no-row buffer (r .result .from) _ e q),
-      all-answered buffer (r .result .from) e (up-to-more (l .loop .inv .4) (r .ensures .4)) q,
+      all-answered buffer (r .result .from) e (up-to-more (l .loop .inv .4) (r .ensures .4)) q .0,
+      all-answered buffer (r .result .from) e (up-to-more (l .loop .inv .4) (r .ensures .4)) q .1,
     )
 
 sub-answer-row : tie.Need-sub-answer-row Inv-loop μ-loop
