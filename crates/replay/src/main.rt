@@ -11,9 +11,9 @@ use row::whole_rows;
 use rows::cut;
 ghost use Prim.Native.Nat.{_≤_};
 ghost use mathlib.Core.Path.{_≡_};
-ghost use lib.ListN.{length, take};
+ghost use lib.ListN.{length, take, drop};
 ghost use Rattle.book.specs.Good.{Good};
-ghost use Rattle.rows.specs.Cut.{cut, lastRow};
+ghost use Rattle.rows.specs.Cut.{cut, lastRow, kept};
 ghost use Rattle.replay.specs.Input.{Within};
 ghost use Rattle.replay.specs.Output.{Answered, AnsweredSome, Replayed};
 
@@ -27,7 +27,7 @@ pub enum Input {
 // Reads once behind what is kept.
 fn fill(buf: &mut [u8], have: usize) -> Input
     requires { ⌜ have ≤ length (now buf) ⌝ }
-    ensures { λ r. ⌜ Within (length (now (buf .entry))) r ⌝ }
+    ensures { λ r. ⌜ (Within have (length (now (buf .entry))) r) × (take have (now (buf .exit)) ≡ take have (now (buf .entry))) ⌝ }
 {
     let got = libc::read(0, &mut buf[have..]);
     if got < 0 {
@@ -43,7 +43,7 @@ fn fill(buf: &mut [u8], have: usize) -> Input
 // Keeps what stands between two places of the buffer, at its front.
 fn keep(buf: &mut [u8], from: usize, end: usize) -> usize
     requires { ⌜ end ≤ length (now buf) ⌝ }
-    ensures { λ r. ⌜ r ≤ length (now (buf .entry)) ⌝ }
+    ensures { λ r. ⌜ (r ≤ length (now (buf .entry))) × (take r (now (buf .exit)) ≡ kept (drop from (take end (now (buf .entry))))) ⌝ }
 {
     let start = cut::kept_from(from, end);
     cut::move_down(&mut buf[..end], start)
@@ -59,7 +59,7 @@ pub struct Run {
 // The rows that end in the buffer, whose input goes up to a place.
 fn pass(buf: &mut [u8], out: &mut [u8], replay: Replay, end: usize) -> Run
     requires { ⌜ (Good (replay .book)) × (replay .at ≤ 28608) × (65536 ≤ length (now out)) × (end ≤ length (now buf)) ⌝ }
-    ensures { λ r. ⌜ (Good (r .replay .book)) × (r .replay .at ≤ 28608) × (r .have ≤ length (now (buf .entry))) × Answered replay (now (out .entry)) (cut (take end (now (buf .entry))) .rows) (r .replay) (now (out .exit)) × (r .going ≡ r .replay .intact) ⌝ }
+    ensures { λ r. ⌜ (Good (r .replay .book)) × (r .replay .at ≤ 28608) × (r .have ≤ length (now (buf .entry))) × Answered replay (now (out .entry)) (cut (take end (now (buf .entry))) .rows) (r .replay) (now (out .exit)) × (take (r .have) (now (buf .exit)) ≡ kept (cut (take end (now (buf .entry))) .rest)) × (r .going ≡ r .replay .intact) ⌝ }
 {
     let passed = whole_rows(&buf[..end], out, replay);
     let left = keep(buf, passed.from, end);

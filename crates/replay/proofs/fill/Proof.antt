@@ -1,6 +1,10 @@
 -- `replay::fill` meets its contract.
 use Rattle.replay.specs.Input.{Within}
 use borrow.Author.Needs.{needs}
+use borrow.Rule.Slice.PartMut.{take-put}
+use Prim.Native.Nat.{_-_}
+use native.Mathlib.Omega.{arith}
+use lib.ListN.{length}
 use Rattle.replay.proofs.fill.Statement.{statement}
 use Rattle.replay.proofs.fill.Tie as tie
 
@@ -21,7 +25,9 @@ same-length c = search needs
 
 returns : tie.Need-returns
 unfolding Within
-returns c = search needs
+returns c =
+    let s = c .before .before .before .before .before .before in
+    (s .pre, take-put (s .args .have) (length (s .args .buf .now) - s .args .have) (s .args .buf .now) (c .before .before .before .read .last .1 .0) (s .pre))
 
 sub-count : tie.Need-sub-count
 sub-count c = search needs
@@ -40,7 +46,9 @@ same-length-2 c = search needs
 
 returns-2 : tie.Need-returns-2
 unfolding Within
-returns-2 c = search needs
+returns-2 c =
+    let s = c .before .before .before .before .before .before .before .before .before .before in
+    (s .pre, take-put (s .args .have) (length (s .args .buf .now) - s .args .have) (s .args .buf .now) (c .before .before .before .before .before .before .before .read .last .1 .0) (s .pre))
 
 add-t6 : tie.Need-add-t6
 add-t6 c = search needs
@@ -50,7 +58,9 @@ same-length-3 c = search needs
 
 returns-3 : tie.Need-returns-3
 unfolding Within
-returns-3 c = search needs
+returns-3 c =
+    let s = c .before .before .before .before .before .before .before .before .before .before in
+    ((omega arith, search needs), take-put (s .args .have) (length (s .args .buf .now) - s .args .have) (s .args .buf .now) (c .before .before .before .before .before .before .before .read .last .1 .0) (s .pre))
 
 pub fill-spec : {M : Type 1} → statement M
 fill-spec =

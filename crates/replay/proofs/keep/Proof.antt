@@ -3,6 +3,7 @@ use mathlib.Core.Path.{sym}
 use native.Mathlib.Omega.{arith}
 use lib.ListN.{length-take, length-drop}
 use lib.Seq.{length-take-le}
+use Rattle.replay.proofs.Stream.{kept-front}
 use borrow.Author.Needs.{needs}
 use Rattle.replay.proofs.keep.Statement.{statement}
 use Rattle.replay.proofs.keep.Tie as tie
@@ -23,7 +24,7 @@ same-length : tie.Need-same-length
 same-length c = search needs
 
 returns : tie.Need-returns
-returns c = omega (arith, simp (length-drop, length-take) at (c .before .before .move-down .ensures .0))
+returns c = (omega (arith, simp (length-drop, length-take) at (c .before .before .move-down .ensures .0)), kept-front _ _ _ (c .before .before .before .before .before .before .pre) (c .before .before .before .before .kept-from .ensures) (c .before .before .move-down .ensures .0) (c .before .before .move-down .ensures .1) _)
 
 pub keep-spec : {M : Type 1} → statement M
 keep-spec =

@@ -1,6 +1,7 @@
 -- `replay::pass` meets its contract.
-use mathlib.Core.Path.{sym}
+use mathlib.Core.Path.{refl, sym, ap, _∙_}
 use lib.Seq.{length-take-le}
+use Rattle.rows.specs.Cut.{kept}
 use borrow.Author.Needs.{needs}
 use Rattle.replay.proofs.pass.Statement.{statement}
 use Rattle.replay.proofs.pass.Tie as tie
@@ -24,7 +25,10 @@ same-length-2 : tie.Need-same-length-2
 same-length-2 c = search needs
 
 returns : tie.Need-returns
-returns c = search needs
+returns c =
+    let w = c .before .before .before .before .before .before .before .whole-rows in
+    let k = c .before .before .before .keep in
+    (w .ensures .0, w .ensures .1, k .ensures .0, w .ensures .5, k .ensures .1 ∙ ap kept (w .ensures .4), refl)
 
 pub pass-spec : {M : Type 1} → statement M
 pass-spec =

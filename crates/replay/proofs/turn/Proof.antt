@@ -1,7 +1,7 @@
 -- `replay::turn` meets its contract.
 use mathlib.Core.Path.{_≡_}
 use mathlib.Core.List.{[]}
-use Prim.Native.Nat.{ℕ, _≤_}
+use Prim.Native.Nat.{ℕ, _≤_, _<_}
 use native.Mathlib.Omega.{arith}
 use Rattle.replay.specs.Input.{Within}
 use Rattle.replay.specs.declared.Input.{Input}
@@ -12,9 +12,9 @@ use Rattle.replay.proofs.turn.Statement.{statement}
 use Rattle.replay.proofs.turn.Tie as tie
 
 -- input that goes up to a place of the buffer
-reached : (n end : ℕ) (r : Input) → Within n r → r ≡ UpTo end → end ≤ n
+reached : (have n end : ℕ) (r : Input) → Within have n r → r ≡ UpTo end → (have < end) × (end ≤ n)
 unfolding Within
-reached n end r w e = rw e at w
+reached have n end r w e = rw e at w
 
 fill-requires : tie.Need-fill-requires
 fill-requires c κs = search needs
@@ -26,7 +26,7 @@ pass-requires : tie.Need-pass-requires
 pass-requires c κs =
     let s = c .before .before .before .before .before .before .before .before .before .before .before .before in
     let f = c .before .before .before .before .before .before .before .fill in
-    (s .pre .0, s .pre .1, s .pre .2, omega (arith, reached _ _ _ (f .ensures) (c .before .before .before .end .given .1), f .kept .0))
+    (s .pre .0, s .pre .1, s .pre .2, omega (arith, reached _ _ _ _ (f .ensures .0) (c .before .before .before .end .given .1) .1, f .kept .0))
 
 enum-told : tie.Need-enum-told
 enum-told c = search needs
