@@ -1,26 +1,24 @@
 -- The lines of rows in the output, row by row.
 use mathlib.Core.Path.{_≡_, refl, sym, ap, _∙_}
 use mathlib.Core.Bool.{Bool, true, false}
-use mathlib.Core.List.{List, [], _∷_, _++_, append-assoc, append-nil}
+use mathlib.Core.List.{List, [], _∷_, _++_, map, append-assoc, append-nil}
 use Prim.Native.Nat.{ℕ, suc, _+_, _-_, _%_, _^_, _≤_, _<_}
 use native.Mathlib.Nat.{add-zero}
 use native.Mathlib.Omega.{arith}
 use borrow.Author.Tests.{le-leb, lt-leb}
 use lib.Dec.{leb}
-use lib.ListN.{length, take, drop, length-append}
+use lib.ListN.{length, take, drop, length-append, length-map}
 use lib.Seq.{sets-eq, take-at, length-take-le}
 use Rattle.choice.specs.Choice.{choose, hit, past}
 use Rattle.decimal.specs.Put.{Put}
-use Rattle.book.specs.State.{emptyBook}
 use Rattle.book.specs.declared.state.Book.{Book}
-use Rattle.report.specs.Lines.{header}
 use Rattle.rows.specs.Cut.{Cut, cut, endFrom, lastRow}
 use Rattle.rows.specs.Row.{rowOf}
 use Rattle.rows.specs.declared.types.End.{End}
 use Rattle.rows.specs.declared.types.End.the-variants.{At, NoEnd}
 use Rattle.rows.proofs.Ends.{rowBefore, next-row, no-row}
 use Rattle.replay.specs.Rows.{bookBy, bookAfter, numberAfter, linesBy, linesAfter}
-use Rattle.replay.specs.Output.{waitsOn, goesOut, waitsAfter, writtenAfter, Answered, AnsweredUpTo, AnsweredSome, Replayed}
+use Rattle.replay.specs.Output.{waitsOn, goesOut, waitsAfter, writtenAfter, Alike, Answered, AnsweredUpTo}
 use Rattle.replay.specs.declared.row.Replay.{Replay}
 
 -- ---- text that is put behind what waits
@@ -123,6 +121,36 @@ _then_ {s} {t} {u} {before} {between} {after} {xs} {ys} a b = record {
   broken = λ h. b .broken (a .broken h);
 }
 
+-- rows count by their answers alone
+pub same-answers : (xs ys : List (List ℕ)) → map rowOf xs ≡ map rowOf ys → (n : ℕ) (b : Book) (text : List ℕ) → Alike n b text xs ys
+unfolding bookAfter linesAfter waitsAfter writtenAfter
+same-answers [] [] e n b text = record { book = refl; lines = refl; waits = refl; written = refl }
+same-answers [] (y ∷ ys) e n b text = absurd (omega (arith, ap length e))
+same-answers (x ∷ xs) [] e n b text = absurd (omega (arith, ap length e))
+same-answers (x ∷ xs) (y ∷ ys) e n b text =
+    let p : rowOf x ≡ rowOf y = cc in
+    let q : map rowOf xs ≡ map rowOf ys = cc in
+    let m = (n + 1) % 2 ^ 64 in
+    let t = text ++ linesBy m b (rowOf y) in
+    let a = same-answers xs ys q m (bookBy b (rowOf y)) (waitsOn t) in
+    record {
+      book = rw p (a .book);
+      lines = rw p (ap (λ (l : List ℕ). linesBy m b (rowOf y) ++ l) (a .lines));
+      waits = rw p (a .waits);
+      written = rw p (ap (λ (l : List ℕ). goesOut t ++ l) (a .written));
+    }
+
+pub answered-as : {s t : Replay} {before after : List ℕ} {xs ys : List (List ℕ)} → map rowOf xs ≡ map rowOf ys → Answered s before xs t after
+    → Answered s before ys t after
+answered-as {s} {t} {before} {after} {xs} {ys} e a =
+    let k = same-answers xs ys e (s .row) (s .book) (take (s .at) before) in
+    record {
+      book = a .book ∙ k .book;
+      number = omega (arith, a .number, ap length e, length-map xs rowOf, length-map ys rowOf);
+      waits = a .waits ∙ k .waits;
+      broken = a .broken;
+    }
+
 -- one row: its lines are put behind what waits, and then it waits on or is written
 module _ {s t : Replay} {before between after row : List ℕ} {next : ℕ} where
   pub row-answered : t .book ≡ bookBy (s .book) (rowOf row) → t .row ≡ (s .row + 1) % 2 ^ 64
@@ -167,15 +195,6 @@ module _ (input : List ℕ) (from : ℕ) {r : End} (p : r ≡ endFrom input from
 
   pub all-answered : r ≡ NoEnd → (drop from input ≡ k .rest) × Answered s before (k .rows) t between
   all-answered q = up-to-all (rw (no-row input from r p q) at a)
-
--- ---- rows that the input had
-pub some-more : {s t u : Replay} {before between after : List ℕ} → AnsweredSome s before t between → AnsweredSome t between u after → AnsweredSome s before u after
-some-more a b = record { rows = a .rows ++ b .rows; answered = a .answered then b .answered }
-
--- from the header and an empty book on
-pub from-header : {s t : Replay} {before after : List ℕ} → s .row ≡ 0 → s .book ≡ emptyBook → take (s .at) before ≡ header → AnsweredSome s before t after
-    → Replayed after (t .at)
-from-header n b h a = record { rows = a .rows; waits = a .answered .waits ∙ rw (n, b, h) refl }
 
 -- the row that the input's end leaves, if any
 pub last-none : (s : Replay) (out input : List ℕ) (n : ℕ) → n ≡ 0 → Answered s out (lastRow (take n input)) s out

@@ -8,6 +8,8 @@ use Rattle.book.specs.State.{emptyBook}
 use Rattle.book.specs.declared.state.Book.{Book}
 use Rattle.report.specs.Lines.{header}
 use Rattle.rows.specs.Cut.{Cut}
+use Rattle.rows.specs.Stream.{joined}
+use Rattle.replay.specs.Input.{rowsUpTo}
 use Rattle.replay.specs.Output.{waitsAfter, writtenAfter, AnsweredUpTo, Replayed}
 use Rattle.replay.specs.Rows.{bookAfter, numberAfter, linesAfter}
 use Rattle.replay.specs.declared.row.Replay.{Replay}
@@ -38,7 +40,11 @@ module _ {s t : Replay} {before after : List ℕ} {input left : Cut} (a : Answer
   pub same-number : numberAfter (s .row) (input .rows) ≡ numberAfter (t .row) (left .rows)
   same-number = omega (arith, ap length (a .all), length-append (a .first) (left .rows), a .answered .number)
 
--- All that went out, and then what waits at the end, are the header and the lines of rows, numbered from 1, from an empty book on.
+-- All that went out, and then what waits at the end, are the header and the lines of the rows of the whole input, or of those up to where
+-- the run broke off, numbered from 1, from an empty book on.
 pub whole-output : {out : List ℕ} {at : ℕ} (r : Replayed out at)
-    → header ++ linesAfter 0 emptyBook (r .rows) ≡ writtenAfter 0 emptyBook header (r .rows) ++ take at out
-whole-output r = output-after 0 emptyBook header (r .rows) ∙ ap (λ (x : List ℕ). writtenAfter 0 emptyBook header (r .rows) ++ x) (sym (r .waits))
+    → header ++ linesAfter 0 emptyBook (rowsUpTo (r .ended) (joined (r .pieces)))
+    ≡ writtenAfter 0 emptyBook header (rowsUpTo (r .ended) (joined (r .pieces))) ++ take at out
+whole-output r =
+    let rows = rowsUpTo (r .ended) (joined (r .pieces)) in
+    output-after 0 emptyBook header rows ∙ ap (λ (x : List ℕ). writtenAfter 0 emptyBook header rows ++ x) (sym (r .waits))

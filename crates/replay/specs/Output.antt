@@ -1,6 +1,6 @@
 -- The output between rows: what waits in its buffer, and what went out before it. Where writing fails no more goes out.
 use mathlib.Core.Path.{_≡_}
-use mathlib.Core.Bool.{false}
+use mathlib.Core.Bool.{Bool, false}
 use mathlib.Core.List.{List, [], _∷_, _++_}
 use Prim.Native.Nat.{ℕ, _+_, _%_, _^_}
 use lib.Dec.{leb}
@@ -11,7 +11,10 @@ use Rattle.book.specs.declared.state.Book.{Book}
 use Rattle.report.specs.Lines.{header}
 use Rattle.rows.specs.Cut.{Cut}
 use Rattle.rows.specs.Row.{rowOf}
-use Rattle.replay.specs.Rows.{bookBy, bookAfter, numberAfter, linesBy}
+use Rattle.rows.specs.Stream.{joined}
+use Rattle.replay.specs.Input.{Read, rowsBy, keptBy, goesOn, rowsUpTo}
+use Rattle.replay.specs.Rows.{bookBy, bookAfter, numberAfter, linesBy, linesAfter}
+use Rattle.replay.specs.declared.Run.{Run}
 use Rattle.replay.specs.declared.row.Replay.{Replay}
 
 -- After a row, text waits on where it leaves room for the lines of one more, which are 36928 bytes at most, in a buffer of 65536; else it
@@ -35,6 +38,13 @@ writtenAfter n b text (row ∷ rows) =
     goesOut (text ++ linesBy ((n + 1) % 2 ^ 64) b (rowOf row))
     ++ writtenAfter ((n + 1) % 2 ^ 64) (bookBy b (rowOf row)) (waitsOn (text ++ linesBy ((n + 1) % 2 ^ 64) b (rowOf row))) rows
 
+-- rows that have the same book, lines and output as others
+pub record Alike (n : ℕ) (b : Book) (text : List ℕ) (xs ys : List (List ℕ)) : Type 0 where
+  pub book : bookAfter b xs ≡ bookAfter b ys
+  pub lines : linesAfter n b xs ≡ linesAfter n b ys
+  pub waits : waitsAfter n b text xs ≡ waitsAfter n b text ys
+  pub written : writtenAfter n b text xs ≡ writtenAfter n b text ys
+
 -- Rows are answered: from a replay and its buffer of output to another, the book, the number of the last row and what waits are
 -- those after these rows; and output that was broken off is not taken up again.
 pub record Answered (from : Replay) (before : List ℕ) (rows : List (List ℕ)) (to : Replay) (after : List ℕ) : Type 0 where
@@ -50,12 +60,17 @@ pub record AnsweredUpTo (from : Replay) (before : List ℕ) (input : Cut) (to : 
   pub unfinished : input .rest ≡ left .rest
   pub answered : Answered from before first to after
 
--- rows that the input had
-pub record AnsweredSome (from : Replay) (before : List ℕ) (to : Replay) (after : List ℕ) : Type 0 where
-  pub rows : List (List ℕ)
-  pub answered : Answered from before rows to after
+-- One turn, from a run with its buffers of input and output to another: what was read, the rows that it completes are answered, and what
+-- is kept of the unfinished one stands at the front of the input's buffer.
+pub record Turned (from : Run) (input before : List ℕ) (to : Run) (left after : List ℕ) : Type 0 where
+  pub got : Read
+  pub answered : Answered (from .replay) before (rowsBy (take (from .have) input) got) (to .replay) after
+  pub keeps : take (to .have) left ≡ keptBy (take (from .have) input) got
+  pub going : to .going ≡ goesOn (to .replay .intact) got
 
--- the end of the input: what waits is what waits after rows, when it began with the header and an empty book
+-- The end of the run: the pieces that were read, whether the input ended with them or the run broke off, and what waits: what waits after
+-- the rows of these pieces put together, when it began with the header and an empty book.
 pub record Replayed (out : List ℕ) (at : ℕ) : Type 0 where
-  pub rows : List (List ℕ)
-  pub waits : take at out ≡ waitsAfter 0 emptyBook header rows
+  pub pieces : List (List ℕ)
+  pub ended : Bool
+  pub waits : take at out ≡ waitsAfter 0 emptyBook header (rowsUpTo ended (joined pieces))

@@ -11,11 +11,12 @@ use row::whole_rows;
 use rows::cut;
 ghost use Prim.Native.Nat.{_≤_};
 ghost use mathlib.Core.Path.{_≡_};
+ghost use mathlib.Core.Bool.{false};
 ghost use lib.ListN.{length, take, drop};
 ghost use Rattle.book.specs.Good.{Good};
 ghost use Rattle.rows.specs.Cut.{cut, lastRow, kept};
 ghost use Rattle.replay.specs.Input.{Within};
-ghost use Rattle.replay.specs.Output.{Answered, AnsweredSome, Replayed};
+ghost use Rattle.replay.specs.Output.{Answered, Turned, Replayed};
 
 // What a read gave: input up to a place of the buffer, its end, or an error.
 pub enum Input {
@@ -75,7 +76,7 @@ fn pass(buf: &mut [u8], out: &mut [u8], replay: Replay, end: usize) -> Run
 // The end of the input: what it left without CRLF is a row.
 fn last_row(buf: &[u8], out: &mut [u8], replay: Replay, have: usize) -> Run
     requires { ⌜ (Good (replay .book)) × (replay .at ≤ 28608) × (65536 ≤ length (now out)) × (have ≤ length (now buf)) ⌝ }
-    ensures { λ r. ⌜ (Good (r .replay .book)) × (r .replay .at ≤ 28608) × (r .have ≤ 0) × Answered replay (now (out .entry)) (lastRow (take have (now (buf .entry)))) (r .replay) (now (out .exit)) ⌝ }
+    ensures { λ r. ⌜ (Good (r .replay .book)) × (r .replay .at ≤ 28608) × (r .have ≤ 0) × Answered replay (now (out .entry)) (lastRow (take have (now (buf .entry)))) (r .replay) (now (out .exit)) × (r .going ≡ false) ⌝ }
 {
     if have == 0 {
         return Run {
@@ -98,7 +99,7 @@ fn last_row(buf: &[u8], out: &mut [u8], replay: Replay, have: usize) -> Run
 // Reads once, and goes through what was read.
 fn turn(buf: &mut [u8], out: &mut [u8], run: Run) -> Run
     requires { ⌜ (Good (run .replay .book)) × (run .replay .at ≤ 28608) × (65536 ≤ length (now out)) × (run .have ≤ length (now buf)) ⌝ }
-    ensures { λ r. ⌜ (Good (r .replay .book)) × (r .replay .at ≤ 28608) × (r .have ≤ length (now (buf .entry))) × AnsweredSome (run .replay) (now (out .entry)) (r .replay) (now (out .exit)) ⌝ }
+    ensures { λ r. ⌜ (Good (r .replay .book)) × (r .replay .at ≤ 28608) × (r .have ≤ length (now (buf .entry))) × Turned run (now (buf .entry)) (now (out .entry)) r (now (buf .exit)) (now (out .exit)) ⌝ }
 {
     let have = run.have;
     let replay = run.replay;

@@ -1,5 +1,5 @@
 -- `replay::last_row` meets its contract.
-use mathlib.Core.Path.{sym, _∙_}
+use mathlib.Core.Path.{refl, sym, _∙_}
 use native.Mathlib.Omega.{arith}
 use lib.ListN.{take}
 use lib.Seq.{length-take-le}
@@ -11,7 +11,7 @@ use Rattle.replay.proofs.last_row.Tie as tie
 returns : tie.Need-returns
 returns c =
     let s = c .before .before .before in
-    (s .pre .0, s .pre .1, omega arith, last-none (s .args .replay) (s .args .out .now) (s .args .buf .now) (s .args .have) (c .if1 .taken))
+    (s .pre .0, s .pre .1, omega arith, last-none (s .args .replay) (s .args .out .now) (s .args .buf .now) (s .args .have) (c .if1 .taken), refl)
 
 slice-aggregate-answer-row : tie.Need-slice-aggregate-answer-row
 slice-aggregate-answer-row c = sym (length-take-le _ _ (c .before .before .before .before .pre .3))
@@ -36,6 +36,7 @@ returns-2 c =
       omega arith,
       last-some (take (s .args .have) (s .args .buf .now)) (omega (arith, long, c .before .before .before .before .before .before .before .before .before .if1 .left))
           (row-answered {next = a .result .at} (a .ensures .3) (a .ensures .2) (a .ensures .4) (omega (arith, a .ensures .1, s .pre .1, s .pre .2)) (f .ensures .1) (λ h. f .ensures .2 (a .ensures .5 ∙ h))),
+      refl,
     )
 
 pub last-row-spec : {M : Type 1} → statement M

@@ -1,32 +1,34 @@
 -- `replay::replayed` meets its contract: between two reads the book is good, and there is room for the lines of one more row.
 use borrow.Author.Needs.{needs}
-use mathlib.Core.Path.{_≡_, refl}
-use mathlib.Core.Bool.{true}
-use mathlib.Core.List.{List, []}
-use Prim.Native.Nat.{ℕ, _≤_}
+use mathlib.Core.Path.{_≡_, refl, sym}
+use mathlib.Core.Bool.{Bool, true, false, not}
+use Prim.Native.Nat.{_≤_}
 use native.Mathlib.Omega.{arith}
-use lib.ListN.{length}
+use lib.ListN.{length, take}
 use Rattle.book.specs.Good.{Good}
-use Rattle.replay.specs.Output.{AnsweredSome, Replayed}
-use Rattle.replay.specs.declared.row.Replay.{Replay}
-use Rattle.replay.proofs.Lines.{put-behind, none-answered, some-more, from-header}
+use Rattle.report.specs.Lines.{header}
+use Rattle.replay.proofs.Lines.{put-behind}
+use Rattle.replay.proofs.Turns.{Reached, begins, reached-more, replayed-so-far, replayed-last}
 use Rattle.replay.proofs.replayed.Statement.{statement}
 use Rattle.replay.proofs.replayed.Tie as tie
 
 abbrev Inv-loop : tie.InvT-loop
 Inv-loop buf₀ out₀ at run₀ turns₀ buf out run turns =
-    (Good (run .replay .book)) × (run .replay .at ≤ 28608) × (run .have ≤ length buf) × (65536 ≤ length out) × (length buf ≡ length buf₀) × (length out ≡ length out₀) × AnsweredSome (run₀ .replay) out₀ (run .replay) out
+    (Good (run .replay .book)) × (run .replay .at ≤ 28608) × (run .have ≤ length buf) × (65536 ≤ length out) × (length buf ≡ length buf₀) × (length out ≡ length out₀) × Reached (run₀ .replay) out₀ run buf out
 
 abbrev μ-loop : tie.MeasureT-loop
 μ-loop buf₀ out₀ at run₀ turns₀ buf out run turns = turns
 
--- the rows up to a turn of the loop, or past it, began after the header
-begun : (l : tie.At-loop Inv-loop μ-loop) {t : Replay} {after : List ℕ}
-    → AnsweredSome (record { book = l .before .empty .result; row = 0; at = l .before .before .before .before .header .result; intact = true }) (l .before .before .before .before .header .last .0) t after
-    → Replayed after (t .at)
-begun l a =
+-- what waited when the loop began
+begun : (l : tie.At-loop Inv-loop μ-loop) → take (l .before .before .before .before .header .result) (l .before .before .before .before .header .last .0) ≡ header
+begun l =
     let h = l .before .before .before .before .header in
-    from-header refl (l .before .empty .ensures .0) (put-behind (h .ensures .0) (omega (arith, h .ensures .1, l .before .before .before .before .before .before .before .before .pre))) a
+    put-behind (h .ensures .0) (omega (arith, h .ensures .1, l .before .before .before .before .before .before .before .before .pre))
+
+-- a test that was left
+goes : (b : Bool) → not b ≡ false → b ≡ true
+goes true p = refl
+goes false p = sym p
 
 header-requires : tie.Need-header-requires Inv-loop μ-loop
 header-requires c κs = omega (arith, c .before .before .before .pre)
@@ -37,7 +39,7 @@ empty-requires c κs = search needs
 loop-holds : tie.Need-loop-holds Inv-loop μ-loop
 loop-holds c =
     let h = c .before .before .before .header in
-    (c .empty .ensures .1, omega (arith, h .ensures .1), omega arith, omega (arith, h .kept .0, c .before .before .before .before .before .before .before .pre), refl, refl, record { rows = []; answered = none-answered _ _ })
+    (c .empty .ensures .1, omega (arith, h .ensures .1), omega arith, omega (arith, h .kept .0, c .before .before .before .before .before .before .before .pre), refl, refl, begins _ _ _)
 
 turn-requires : tie.Need-turn-requires Inv-loop μ-loop
 turn-requires c κs =
@@ -54,7 +56,7 @@ loop-again : tie.Need-loop-again Inv-loop μ-loop
 loop-again c =
     let l = c .before .before .before .before .before .before .before .before .before .loop in
     let t = c .before .before .before .before .before .turn in
-    (t .ensures .0, t .ensures .1, omega (arith, t .ensures .2, t .kept .0), omega (arith, t .kept .1, l .inv .3), omega (arith, t .kept .0, l .inv .4), omega (arith, t .kept .1, l .inv .5), some-more (l .inv .6) (t .ensures .3))
+    (t .ensures .0, t .ensures .1, omega (arith, t .ensures .2, t .kept .0), omega (arith, t .kept .1, l .inv .3), omega (arith, t .kept .0, l .inv .4), omega (arith, t .kept .1, l .inv .5), reached-more (l .inv .6) (t .ensures .3) (goes _ (c .if1 .left)))
 
 same-length : tie.Need-same-length Inv-loop μ-loop
 same-length c = omega (arith, c .before .loop .inv .4)
@@ -63,7 +65,7 @@ same-length-2 : tie.Need-same-length-2 Inv-loop μ-loop
 same-length-2 c = omega (arith, c .before .loop .inv .5, c .before .before .before .before .before .header .kept .0)
 
 returns : tie.Need-returns Inv-loop μ-loop
-returns c = (c .before .loop .inv .1, begun (c .before) (c .before .loop .inv .6))
+returns c = (c .before .loop .inv .1, replayed-so-far refl (c .before .before .empty .ensures .0) (begun (c .before)) (c .before .loop .inv .6))
 
 same-length-3 : tie.Need-same-length-3 Inv-loop μ-loop
 same-length-3 c = omega (arith, c .before .before .before .before .before .turn .kept .0, c .before .before .before .before .before .before .before .before .before .loop .inv .4)
@@ -75,7 +77,7 @@ returns-2 : tie.Need-returns-2 Inv-loop μ-loop
 returns-2 c =
     let l = c .before .before .before .before .before .before .before .before .before in
     let t = c .before .before .before .before .before .turn in
-    (t .ensures .1, begun l (some-more (l .loop .inv .6) (t .ensures .3)))
+    (t .ensures .1, replayed-last refl (l .before .empty .ensures .0) (begun l) (l .loop .inv .6) (t .ensures .3))
 
 pub replayed-spec : {M : Type 1} → statement M
 replayed-spec =

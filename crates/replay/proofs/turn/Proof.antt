@@ -1,12 +1,11 @@
 -- `replay::turn` meets its contract.
 use mathlib.Core.Path.{_≡_}
-use mathlib.Core.List.{[]}
 use Prim.Native.Nat.{ℕ, _≤_, _<_}
 use native.Mathlib.Omega.{arith}
 use Rattle.replay.specs.Input.{Within}
 use Rattle.replay.specs.declared.Input.{Input}
 use Rattle.replay.specs.declared.Input.the-variants.{UpTo}
-use Rattle.replay.proofs.Lines.{none-answered}
+use Rattle.replay.proofs.Turns.{behind, turned-piece, turned-end, turned-failure}
 use borrow.Author.Needs.{needs}
 use Rattle.replay.proofs.turn.Statement.{statement}
 use Rattle.replay.proofs.turn.Tie as tie
@@ -47,7 +46,7 @@ returns : tie.Need-returns
 returns c =
     let r = c .before .before .before .before .pass in
     let f = c .before .before .before .before .before .before .before .before .before .before .before .before .fill in
-    (r .ensures .0, r .ensures .1, omega (arith, r .ensures .2, f .kept .0), record { rows = _; answered = r .ensures .3 })
+    (r .ensures .0, r .ensures .1, omega (arith, r .ensures .2, f .kept .0), turned-piece _ (behind _ _ _ _ (reached _ _ _ _ (f .ensures .0) (c .before .before .before .before .before .before .before .before .end .given .1) .0) (f .ensures .1)) (r .ensures .3) (r .ensures .4) (r .ensures .5))
 
 same-length-3 : tie.Need-same-length-3
 same-length-3 c = search needs
@@ -58,7 +57,8 @@ same-length-4 c = search needs
 returns-2 : tie.Need-returns-2
 returns-2 c =
     let r = c .before .before .last-row in
-    (r .ensures .0, r .ensures .1, omega (arith, r .ensures .2), record { rows = _; answered = r .ensures .3 })
+    let f = c .before .before .before .before .before .before .before .before .before .fill in
+    (r .ensures .0, r .ensures .1, omega (arith, r .ensures .2), turned-end (f .ensures .1) (r .ensures .3) (r .ensures .2) (r .ensures .4))
 
 same-length-5 : tie.Need-same-length-5
 same-length-5 c = search needs
@@ -66,7 +66,7 @@ same-length-5 c = search needs
 returns-3 : tie.Need-returns-3
 returns-3 c =
     let s = c .before .before .before .before .before .before .before .before .before in
-    (s .pre .0, s .pre .1, omega arith, record { rows = []; answered = none-answered (s .args .run .replay) (s .args .out .now) })
+    (s .pre .0, s .pre .1, omega arith, turned-failure (s .args .run) (s .args .buf .now) (s .args .out .now) _)
 
 pub turn-spec : {M : Type 1} → statement M
 turn-spec =
