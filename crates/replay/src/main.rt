@@ -9,12 +9,12 @@ use row::answer_row;
 use row::flushed;
 use row::whole_rows;
 use rows::cut;
-ghost use Prim.Native.Nat.{_≤_};
+ghost use Prim.Native.Nat.{_≤_, _<_};
 ghost use mathlib.Core.Path.{_≡_};
 ghost use mathlib.Core.Bool.{false};
 ghost use lib.ListN.{length, take, drop};
 ghost use Rattle.book.specs.Good.{Good};
-ghost use Rattle.rows.specs.Cut.{cut, lastRow, kept};
+ghost use Rattle.rows.specs.Cut.{cut, lastRow, keptBytes, kept};
 ghost use Rattle.replay.specs.Input.{Within};
 ghost use Rattle.replay.specs.Output.{Answered, Turned, Replayed};
 
@@ -25,9 +25,9 @@ pub enum Input {
     Failed,
 }
 
-// Reads once behind what is kept.
+// Reads once behind what is kept, where there is room: a read of no bytes is the input's end.
 fn fill(buf: &mut [u8], have: usize) -> Input
-    requires { ⌜ have ≤ length (now buf) ⌝ }
+    requires { ⌜ have < length (now buf) ⌝ }
     ensures { λ r. ⌜ (Within have (length (now (buf .entry))) r) × (take have (now (buf .exit)) ≡ take have (now (buf .entry))) ⌝ }
 {
     let got = libc::read(0, &mut buf[have..]);
@@ -44,7 +44,7 @@ fn fill(buf: &mut [u8], have: usize) -> Input
 // Keeps what stands between two places of the buffer, at its front.
 fn keep(buf: &mut [u8], from: usize, end: usize) -> usize
     requires { ⌜ end ≤ length (now buf) ⌝ }
-    ensures { λ r. ⌜ (r ≤ length (now (buf .entry))) × (take r (now (buf .exit)) ≡ kept (drop from (take end (now (buf .entry))))) ⌝ }
+    ensures { λ r. ⌜ (r ≤ length (now (buf .entry))) × (r ≤ keptBytes) × (take r (now (buf .exit)) ≡ kept (drop from (take end (now (buf .entry))))) ⌝ }
 {
     let start = cut::kept_from(from, end);
     cut::move_down(&mut buf[..end], start)
@@ -60,7 +60,7 @@ pub struct Run {
 // The rows that end in the buffer, whose input goes up to a place.
 fn pass(buf: &mut [u8], out: &mut [u8], replay: Replay, end: usize) -> Run
     requires { ⌜ (Good (replay .book)) × (replay .at ≤ 28608) × (65536 ≤ length (now out)) × (end ≤ length (now buf)) ⌝ }
-    ensures { λ r. ⌜ (Good (r .replay .book)) × (r .replay .at ≤ 28608) × (r .have ≤ length (now (buf .entry))) × Answered replay (now (out .entry)) (cut (take end (now (buf .entry))) .rows) (r .replay) (now (out .exit)) × (take (r .have) (now (buf .exit)) ≡ kept (cut (take end (now (buf .entry))) .rest)) × (r .going ≡ r .replay .intact) ⌝ }
+    ensures { λ r. ⌜ (Good (r .replay .book)) × (r .replay .at ≤ 28608) × (r .have ≤ length (now (buf .entry))) × (r .have ≤ keptBytes) × Answered replay (now (out .entry)) (cut (take end (now (buf .entry))) .rows) (r .replay) (now (out .exit)) × (take (r .have) (now (buf .exit)) ≡ kept (cut (take end (now (buf .entry))) .rest)) × (r .going ≡ r .replay .intact) ⌝ }
 {
     let passed = whole_rows(&buf[..end], out, replay);
     let left = keep(buf, passed.from, end);
@@ -98,8 +98,8 @@ fn last_row(buf: &[u8], out: &mut [u8], replay: Replay, have: usize) -> Run
 
 // Reads once, and goes through what was read.
 fn turn(buf: &mut [u8], out: &mut [u8], run: Run) -> Run
-    requires { ⌜ (Good (run .replay .book)) × (run .replay .at ≤ 28608) × (65536 ≤ length (now out)) × (run .have ≤ length (now buf)) ⌝ }
-    ensures { λ r. ⌜ (Good (r .replay .book)) × (r .replay .at ≤ 28608) × (r .have ≤ length (now (buf .entry))) × Turned run (now (buf .entry)) (now (out .entry)) r (now (buf .exit)) (now (out .exit)) ⌝ }
+    requires { ⌜ (Good (run .replay .book)) × (run .replay .at ≤ 28608) × (65536 ≤ length (now out)) × (run .have ≤ keptBytes) × (keptBytes < length (now buf)) ⌝ }
+    ensures { λ r. ⌜ (Good (r .replay .book)) × (r .replay .at ≤ 28608) × (r .have ≤ keptBytes) × Turned run (now (buf .entry)) (now (out .entry)) r (now (buf .exit)) (now (out .exit)) ⌝ }
 {
     let have = run.have;
     let replay = run.replay;
@@ -116,7 +116,7 @@ fn turn(buf: &mut [u8], out: &mut [u8], run: Run) -> Run
 
 // The header, and then the rows of the whole input, or those up to where reading or writing fails.
 fn replayed(buf: &mut [u8], out: &mut [u8]) -> Waiting
-    requires { ⌜ 65536 ≤ length (now out) ⌝ }
+    requires { ⌜ (keptBytes < length (now buf)) × (65536 ≤ length (now out)) ⌝ }
     ensures { λ r. ⌜ (r .at ≤ 28608) × Replayed (now (out .exit)) (r .at) ⌝ }
 {
     let at = lines::header(out, 0);

@@ -27,7 +27,7 @@ returns : tie.Need-returns
 unfolding Within
 returns c =
     let s = c .before .before .before .before .before .before in
-    (s .pre, take-put (s .args .have) (length (s .args .buf .now) - s .args .have) (s .args .buf .now) (c .before .before .before .read .last .1 .0) (s .pre))
+    (omega (arith, s .pre), take-put (s .args .have) (length (s .args .buf .now) - s .args .have) (s .args .buf .now) (c .before .before .before .read .last .1 .0) (omega (arith, s .pre)))
 
 sub-count : tie.Need-sub-count
 sub-count c = search needs
@@ -48,7 +48,7 @@ returns-2 : tie.Need-returns-2
 unfolding Within
 returns-2 c =
     let s = c .before .before .before .before .before .before .before .before .before .before in
-    (s .pre, take-put (s .args .have) (length (s .args .buf .now) - s .args .have) (s .args .buf .now) (c .before .before .before .before .before .before .before .read .last .1 .0) (s .pre))
+    (omega (arith, s .pre), take-put (s .args .have) (length (s .args .buf .now) - s .args .have) (s .args .buf .now) (c .before .before .before .before .before .before .before .read .last .1 .0) (omega (arith, s .pre)))
 
 add-t6 : tie.Need-add-t6
 add-t6 c = search needs
@@ -60,7 +60,7 @@ returns-3 : tie.Need-returns-3
 unfolding Within
 returns-3 c =
     let s = c .before .before .before .before .before .before .before .before .before .before in
-    ((omega arith, search needs), take-put (s .args .have) (length (s .args .buf .now) - s .args .have) (s .args .buf .now) (c .before .before .before .before .before .before .before .read .last .1 .0) (s .pre))
+    ((omega arith, search needs), take-put (s .args .have) (length (s .args .buf .now) - s .args .have) (s .args .buf .now) (c .before .before .before .before .before .before .before .read .last .1 .0) (omega (arith, s .pre)))
 
 pub fill-spec : {M : Type 1} → statement M
 fill-spec =

@@ -3,6 +3,7 @@ use mathlib.Core.Path.{sym}
 use native.Mathlib.Omega.{arith}
 use lib.ListN.{length-take, length-drop}
 use lib.Seq.{length-take-le}
+use Rattle.rows.specs.Cut.{keptFrom}
 use Rattle.replay.proofs.Stream.{kept-front}
 use borrow.Author.Needs.{needs}
 use Rattle.replay.proofs.keep.Statement.{statement}
@@ -24,7 +25,13 @@ same-length : tie.Need-same-length
 same-length c = search needs
 
 returns : tie.Need-returns
-returns c = (omega (arith, simp (length-drop, length-take) at (c .before .before .move-down .ensures .0)), kept-front _ _ _ (c .before .before .before .before .before .before .pre) (c .before .before .before .before .kept-from .ensures) (c .before .before .move-down .ensures .0) (c .before .before .move-down .ensures .1) _)
+unfolding keptFrom
+returns c =
+    let m = c .before .before .move-down .ensures in
+    let k = c .before .before .before .before .kept-from .ensures in
+    let s = c .before .before .before .before .before .before in
+    let n = simp (length-drop, length-take) at (m .0) in
+    (omega (arith, n), omega (arith, n, k), kept-front (s .args .buf .now) (s .args .from) (s .args .end) (s .pre) k (m .0) (m .1) _)
 
 pub keep-spec : {M : Type 1} → statement M
 keep-spec =

@@ -1,5 +1,6 @@
 -- `replay::pass` meets its contract.
 use mathlib.Core.Path.{refl, sym, ap, _∙_}
+use native.Mathlib.Omega.{arith}
 use lib.Seq.{length-take-le}
 use Rattle.rows.specs.Cut.{kept}
 use borrow.Author.Needs.{needs}
@@ -28,7 +29,7 @@ returns : tie.Need-returns
 returns c =
     let w = c .before .before .before .before .before .before .before .whole-rows in
     let k = c .before .before .before .keep in
-    (w .ensures .0, w .ensures .1, k .ensures .0, w .ensures .5, k .ensures .1 ∙ ap kept (w .ensures .4), refl)
+    (w .ensures .0, w .ensures .1, omega (arith, k .ensures .0), omega (arith, k .ensures .1), w .ensures .5, k .ensures .2 ∙ ap kept (w .ensures .4), refl)
 
 pub pass-spec : {M : Type 1} → statement M
 pass-spec =

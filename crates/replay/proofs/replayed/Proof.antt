@@ -6,6 +6,7 @@ use Prim.Native.Nat.{_≤_}
 use native.Mathlib.Omega.{arith}
 use lib.ListN.{length, take}
 use Rattle.book.specs.Good.{Good}
+use Rattle.rows.specs.Cut.{keptBytes}
 use Rattle.report.specs.Lines.{header}
 use Rattle.replay.proofs.Lines.{put-behind}
 use Rattle.replay.proofs.Turns.{Reached, begins, reached-more, replayed-so-far, replayed-last}
@@ -14,7 +15,7 @@ use Rattle.replay.proofs.replayed.Tie as tie
 
 abbrev Inv-loop : tie.InvT-loop
 Inv-loop buf₀ out₀ at run₀ turns₀ buf out run turns =
-    (Good (run .replay .book)) × (run .replay .at ≤ 28608) × (run .have ≤ length buf) × (65536 ≤ length out) × (length buf ≡ length buf₀) × (length out ≡ length out₀) × Reached (run₀ .replay) out₀ run buf out
+    (Good (run .replay .book)) × (run .replay .at ≤ 28608) × (run .have ≤ keptBytes) × (65536 ≤ length out) × (length buf ≡ length buf₀) × (length out ≡ length out₀) × Reached (run₀ .replay) out₀ run buf out
 
 abbrev μ-loop : tie.MeasureT-loop
 μ-loop buf₀ out₀ at run₀ turns₀ buf out run turns = turns
@@ -23,7 +24,7 @@ abbrev μ-loop : tie.MeasureT-loop
 begun : (l : tie.At-loop Inv-loop μ-loop) → take (l .before .before .before .before .header .result) (l .before .before .before .before .header .last .0) ≡ header
 begun l =
     let h = l .before .before .before .before .header in
-    put-behind (h .ensures .0) (omega (arith, h .ensures .1, l .before .before .before .before .before .before .before .before .pre))
+    put-behind (h .ensures .0) (omega (arith, h .ensures .1, l .before .before .before .before .before .before .before .before .pre .1))
 
 -- a test that was left
 goes : (b : Bool) → not b ≡ false → b ≡ true
@@ -31,7 +32,7 @@ goes true p = refl
 goes false p = sym p
 
 header-requires : tie.Need-header-requires Inv-loop μ-loop
-header-requires c κs = omega (arith, c .before .before .before .pre)
+header-requires c κs = omega (arith, c .before .before .before .pre .1)
 
 empty-requires : tie.Need-empty-requires Inv-loop μ-loop
 empty-requires c κs = search needs
@@ -39,12 +40,12 @@ empty-requires c κs = search needs
 loop-holds : tie.Need-loop-holds Inv-loop μ-loop
 loop-holds c =
     let h = c .before .before .before .header in
-    (c .empty .ensures .1, omega (arith, h .ensures .1), omega arith, omega (arith, h .kept .0, c .before .before .before .before .before .before .before .pre), refl, refl, begins _ _ _)
+    (c .empty .ensures .1, omega (arith, h .ensures .1), omega arith, omega (arith, h .kept .0, c .before .before .before .before .before .before .before .pre .1), refl, refl, begins _ _ _)
 
 turn-requires : tie.Need-turn-requires Inv-loop μ-loop
 turn-requires c κs =
     let l = c .before .before .before .loop in
-    (l .inv .0, l .inv .1, l .inv .3, l .inv .2)
+    (l .inv .0, l .inv .1, l .inv .3, l .inv .2, omega (arith, l .inv .4, c .before .before .before .before .before .before .before .before .before .before .before .pre .0))
 
 sub-turns : tie.Need-sub-turns Inv-loop μ-loop
 sub-turns c = omega (arith, c .before .before .before .before .before .before .before .before .loop-test .taken)
@@ -56,7 +57,7 @@ loop-again : tie.Need-loop-again Inv-loop μ-loop
 loop-again c =
     let l = c .before .before .before .before .before .before .before .before .before .loop in
     let t = c .before .before .before .before .before .turn in
-    (t .ensures .0, t .ensures .1, omega (arith, t .ensures .2, t .kept .0), omega (arith, t .kept .1, l .inv .3), omega (arith, t .kept .0, l .inv .4), omega (arith, t .kept .1, l .inv .5), reached-more (l .inv .6) (t .ensures .3) (goes _ (c .if1 .left)))
+    (t .ensures .0, t .ensures .1, t .ensures .2, omega (arith, t .kept .1, l .inv .3), omega (arith, t .kept .0, l .inv .4), omega (arith, t .kept .1, l .inv .5), reached-more (l .inv .6) (t .ensures .3) (goes _ (c .if1 .left)))
 
 same-length : tie.Need-same-length Inv-loop μ-loop
 same-length c = omega (arith, c .before .loop .inv .4)

@@ -16,7 +16,9 @@ unfolding Within
 reached have n end r w e = rw e at w
 
 fill-requires : tie.Need-fill-requires
-fill-requires c κs = search needs
+fill-requires c κs =
+    let s = c .before .before .before .before in
+    omega (arith, s .pre .3, s .pre .4)
 
 enum-known-end : tie.Need-enum-known-end
 enum-known-end c = search needs
@@ -31,7 +33,9 @@ enum-told : tie.Need-enum-told
 enum-told c = search needs
 
 last-row-requires : tie.Need-last-row-requires
-last-row-requires c κs = search needs
+last-row-requires c κs =
+    let s = c .before .before .before .before .before .before .before .before .before .before .before in
+    (s .pre .0, s .pre .1, s .pre .2, omega (arith, s .pre .3, s .pre .4, c .before .before .before .before .before .before .fill .kept .0))
 
 enum-told-2 : tie.Need-enum-told-2
 enum-told-2 c = search needs
@@ -46,7 +50,7 @@ returns : tie.Need-returns
 returns c =
     let r = c .before .before .before .before .pass in
     let f = c .before .before .before .before .before .before .before .before .before .before .before .before .fill in
-    (r .ensures .0, r .ensures .1, omega (arith, r .ensures .2, f .kept .0), turned-piece _ (behind _ _ _ _ (reached _ _ _ _ (f .ensures .0) (c .before .before .before .before .before .before .before .before .end .given .1) .0) (f .ensures .1)) (r .ensures .3) (r .ensures .4) (r .ensures .5))
+    (r .ensures .0, r .ensures .1, r .ensures .3, turned-piece _ (behind _ _ _ _ (reached _ _ _ _ (f .ensures .0) (c .before .before .before .before .before .before .before .before .end .given .1) .0) (f .ensures .1)) (r .ensures .4) (r .ensures .5) (r .ensures .6))
 
 same-length-3 : tie.Need-same-length-3
 same-length-3 c = search needs
