@@ -13,6 +13,7 @@ use Rattle.replay.specs.Input.{rowsUpTo}
 use Rattle.replay.specs.Output.{waitsAfter, writtenAfter, AnsweredUpTo, Replayed}
 use Rattle.replay.specs.Rows.{bookAfter, numberAfter, linesAfter}
 use Rattle.replay.specs.declared.row.Replay.{Replay}
+use Rattle.replay.specs.declared.row.Waiting.{Waiting}
 use Rattle.replay.proofs.Lines.{book-append, output-after, lines-counted, lines-append}
 
 -- No line is lost and none is added: what waited and the lines of all rows are what went out, what waits now, and the lines of the rows
@@ -42,9 +43,9 @@ module _ {s t : Replay} {before after : List ℕ} {input left : Cut} (a : Answer
 
 -- All that went out, and then what waits at the end, are the header and the lines of the rows of the whole input, or of those up to where
 -- the run broke off, numbered from 1, from an empty book on.
-pub whole-output : {out : List ℕ} {at : ℕ} (r : Replayed out at)
+pub whole-output : {out : List ℕ} {waiting : Waiting} (r : Replayed out waiting)
     → header ++ linesAfter 0 emptyBook (rowsUpTo (r .ended) (joined (r .pieces)))
-    ≡ writtenAfter 0 emptyBook header (rowsUpTo (r .ended) (joined (r .pieces))) ++ take at out
+    ≡ writtenAfter 0 emptyBook header (rowsUpTo (r .ended) (joined (r .pieces))) ++ take (waiting .at) out
 whole-output r =
     let rows = rowsUpTo (r .ended) (joined (r .pieces)) in
     output-after 0 emptyBook header rows ∙ ap (λ (x : List ℕ). writtenAfter 0 emptyBook header rows ++ x) (sym (r .waits))

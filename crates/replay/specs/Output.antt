@@ -1,8 +1,8 @@
 -- The output between rows: what waits in its buffer, and what went out before it. Where writing fails no more goes out.
 use mathlib.Core.Path.{_≡_}
-use mathlib.Core.Bool.{Bool, false}
+use mathlib.Core.Bool.{Bool, true, false}
 use mathlib.Core.List.{List, [], _∷_, _++_}
-use Prim.Native.Nat.{ℕ, _+_, _%_, _^_}
+use Prim.Native.Nat.{ℕ, _+_, _-_, _%_, _^_}
 use lib.Dec.{leb}
 use lib.ListN.{length, take}
 use Rattle.choice.specs.Choice.{choose}
@@ -16,6 +16,7 @@ use Rattle.replay.specs.Input.{Read, rowsBy, keptBy, goesOn, rowsUpTo}
 use Rattle.replay.specs.Rows.{bookBy, bookAfter, numberAfter, linesBy, linesAfter}
 use Rattle.replay.specs.declared.Run.{Run}
 use Rattle.replay.specs.declared.row.Replay.{Replay}
+use Rattle.replay.specs.declared.row.Waiting.{Waiting}
 
 -- After a row, text waits on where it leaves room for the lines of one more, which are 36928 bytes at most, in a buffer of 65536; else it
 -- goes out, and none waits.
@@ -68,9 +69,17 @@ pub record Turned (from : Run) (input before : List ℕ) (to : Run) (left after 
   pub keeps : take (to .have) left ≡ keptBy (take (from .have) input) got
   pub going : to .going ≡ goesOn (to .replay .intact) got
 
--- The end of the run: the pieces that were read, whether the input ended with them or the run broke off, and what waits: what waits after
--- the rows of these pieces put together, when it began with the header and an empty book.
-pub record Replayed (out : List ℕ) (at : ℕ) : Type 0 where
+-- Why a run stops after these pieces: at the input's end, or broken off where a read or a write fails, or once 64 bits count no more reads.
+pub data Stopped (pieces : List (List ℕ)) (intact : Bool) : Bool → Type 0 where
+  atEnd : Stopped pieces intact true
+  unread : Stopped pieces intact false
+  unwritten : intact ≡ false → Stopped pieces intact false
+  uncounted : length pieces ≡ 2 ^ 64 - 1 → Stopped pieces intact false
+
+-- The end of the run: the pieces that were read, whether the input ended with them, and what waits: what waits after the rows of these
+-- pieces put together, when it began with the header and an empty book.
+pub record Replayed (out : List ℕ) (waiting : Waiting) : Type 0 where
   pub pieces : List (List ℕ)
   pub ended : Bool
-  pub waits : take at out ≡ waitsAfter 0 emptyBook header (rowsUpTo ended (joined pieces))
+  pub stopped : Stopped pieces (waiting .intact) ended
+  pub waits : take (waiting .at) out ≡ waitsAfter 0 emptyBook header (rowsUpTo ended (joined pieces))

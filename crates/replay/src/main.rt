@@ -117,7 +117,7 @@ fn turn(buf: &mut [u8], out: &mut [u8], run: Run) -> Run
 // The header, and then the rows of the whole input, or those up to where reading or writing fails.
 fn replayed(buf: &mut [u8], out: &mut [u8]) -> Waiting
     requires { ⌜ (keptBytes < length (now buf)) × (65536 ≤ length (now out)) ⌝ }
-    ensures { λ r. ⌜ (r .at ≤ 28608) × Replayed (now (out .exit)) (r .at) ⌝ }
+    ensures { λ r. ⌜ (r .at ≤ 28608) × Replayed (now (out .exit)) r ⌝ }
 {
     let at = lines::header(out, 0);
     let book = book::empty();
@@ -151,7 +151,7 @@ fn replayed(buf: &mut [u8], out: &mut [u8]) -> Waiting
 
 // Writes what waits in the output, where all before it was written.
 fn finish(out: &[u8], waiting: Waiting)
-    requires { ⌜ (waiting .at ≤ length (now out)) × Replayed (now out) (waiting .at) ⌝ }
+    requires { ⌜ (waiting .at ≤ length (now out)) × Replayed (now out) waiting ⌝ }
 {
     let at = waiting.at;
     let intact = waiting.intact;
@@ -162,7 +162,7 @@ fn finish(out: &[u8], waiting: Waiting)
 
 fn with_input(out: &mut [u8]) -> Waiting
     requires { ⌜ 65536 ≤ length (now out) ⌝ }
-    ensures { λ r. ⌜ (r .at ≤ 28608) × Replayed (now (out .exit)) (r .at) ⌝ }
+    ensures { λ r. ⌜ (r .at ≤ 28608) × Replayed (now (out .exit)) r ⌝ }
 {
     let mut space = io::large_buffer();
     let buf: &mut [u8] = &mut space;

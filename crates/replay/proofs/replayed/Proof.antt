@@ -9,13 +9,13 @@ use Rattle.book.specs.Good.{Good}
 use Rattle.rows.specs.Cut.{keptBytes}
 use Rattle.report.specs.Lines.{header}
 use Rattle.replay.proofs.Lines.{put-behind}
-use Rattle.replay.proofs.Turns.{Reached, begins, reached-more, replayed-so-far, replayed-last}
+use Rattle.replay.proofs.Turns.{Reached, begins, reached-more, replayed-uncounted, replayed-last}
 use Rattle.replay.proofs.replayed.Statement.{statement}
 use Rattle.replay.proofs.replayed.Tie as tie
 
 abbrev Inv-loop : tie.InvT-loop
 Inv-loop buf₀ out₀ at run₀ turns₀ buf out run turns =
-    (Good (run .replay .book)) × (run .replay .at ≤ 28608) × (run .have ≤ keptBytes) × (65536 ≤ length out) × (length buf ≡ length buf₀) × (length out ≡ length out₀) × Reached (run₀ .replay) out₀ run buf out
+    (Good (run .replay .book)) × (run .replay .at ≤ 28608) × (run .have ≤ keptBytes) × (65536 ≤ length out) × (length buf ≡ length buf₀) × (length out ≡ length out₀) × Reached (run₀ .replay) out₀ run buf out turns
 
 abbrev μ-loop : tie.MeasureT-loop
 μ-loop buf₀ out₀ at run₀ turns₀ buf out run turns = turns
@@ -26,10 +26,14 @@ begun l =
     let h = l .before .before .before .before .header in
     put-behind (h .ensures .0) (omega (arith, h .ensures .1, l .before .before .before .before .before .before .before .before .pre .1))
 
--- a test that was left
+-- whether there is more to read, by the test
 goes : (b : Bool) → not b ≡ false → b ≡ true
 goes true p = refl
 goes false p = sym p
+
+stops : (b : Bool) → not b ≡ true → b ≡ false
+stops true p = sym p
+stops false p = refl
 
 header-requires : tie.Need-header-requires Inv-loop μ-loop
 header-requires c κs = omega (arith, c .before .before .before .pre .1)
@@ -57,7 +61,7 @@ loop-again : tie.Need-loop-again Inv-loop μ-loop
 loop-again c =
     let l = c .before .before .before .before .before .before .before .before .before .loop in
     let t = c .before .before .before .before .before .turn in
-    (t .ensures .0, t .ensures .1, t .ensures .2, omega (arith, t .kept .1, l .inv .3), omega (arith, t .kept .0, l .inv .4), omega (arith, t .kept .1, l .inv .5), reached-more (l .inv .6) (t .ensures .3) (goes _ (c .if1 .left)))
+    (t .ensures .0, t .ensures .1, t .ensures .2, omega (arith, t .kept .1, l .inv .3), omega (arith, t .kept .0, l .inv .4), omega (arith, t .kept .1, l .inv .5), reached-more (l .inv .6) (t .ensures .3) (goes _ (c .if1 .left)) (c .before .before .before .before .before .before .before .before .loop-test .taken))
 
 same-length : tie.Need-same-length Inv-loop μ-loop
 same-length c = omega (arith, c .before .loop .inv .4)
@@ -66,7 +70,7 @@ same-length-2 : tie.Need-same-length-2 Inv-loop μ-loop
 same-length-2 c = omega (arith, c .before .loop .inv .5, c .before .before .before .before .before .header .kept .0)
 
 returns : tie.Need-returns Inv-loop μ-loop
-returns c = (c .before .loop .inv .1, replayed-so-far refl (c .before .before .empty .ensures .0) (begun (c .before)) (c .before .loop .inv .6))
+returns c = (c .before .loop .inv .1, replayed-uncounted (c .before .loop .inv .6) (record { row = refl; book = c .before .before .empty .ensures .0; waits = begun (c .before) }) (c .loop-test .left))
 
 same-length-3 : tie.Need-same-length-3 Inv-loop μ-loop
 same-length-3 c = omega (arith, c .before .before .before .before .before .turn .kept .0, c .before .before .before .before .before .before .before .before .before .loop .inv .4)
@@ -78,7 +82,7 @@ returns-2 : tie.Need-returns-2 Inv-loop μ-loop
 returns-2 c =
     let l = c .before .before .before .before .before .before .before .before .before in
     let t = c .before .before .before .before .before .turn in
-    (t .ensures .1, replayed-last refl (l .before .empty .ensures .0) (begun l) (l .loop .inv .6) (t .ensures .3))
+    (t .ensures .1, replayed-last (l .loop .inv .6) (record { row = refl; book = l .before .empty .ensures .0; waits = begun l }) (t .ensures .3) (stops _ (c .if1 .taken)))
 
 pub replayed-spec : {M : Type 1} → statement M
 replayed-spec =
