@@ -1,5 +1,6 @@
 -- What is promised of the output (01, "Rows").
 use mathlib.Core.Path.{_≡_, sym, ap, _∙_}
+use mathlib.Core.Bool.{true}
 use mathlib.Core.List.{List, _++_, append-assoc}
 use Prim.Native.Nat.{ℕ}
 use native.Mathlib.Omega.{arith}
@@ -7,7 +8,7 @@ use lib.ListN.{length, take, length-append}
 use Rattle.book.specs.State.{emptyBook}
 use Rattle.book.specs.declared.state.Book.{Book}
 use Rattle.report.specs.Lines.{header}
-use Rattle.rows.specs.Cut.{Cut}
+use Rattle.rows.specs.Cut.{Cut, rowsOf}
 use Rattle.rows.specs.Stream.{joined}
 use Rattle.replay.specs.Input.{rowsUpTo}
 use Rattle.replay.specs.Output.{waitsAfter, writtenAfter, AnsweredUpTo, Replayed}
@@ -49,3 +50,10 @@ pub whole-output : {out : List ℕ} {waiting : Waiting} (r : Replayed out waitin
 whole-output r =
     let rows = rowsUpTo (r .ended) (joined (r .pieces)) in
     output-after 0 emptyBook header rows ∙ ap (λ (x : List ℕ). writtenAfter 0 emptyBook header rows ++ x) (sym (r .waits))
+
+-- Where the input ended these are all its rows.
+pub whole-input : {out : List ℕ} {waiting : Waiting} (r : Replayed out waiting) → r .ended ≡ true
+    → header ++ linesAfter 0 emptyBook (rowsOf (joined (r .pieces)))
+    ≡ writtenAfter 0 emptyBook header (rowsOf (joined (r .pieces))) ++ take (waiting .at) out
+unfolding rowsUpTo
+whole-input r e = rw e at (whole-output r)
