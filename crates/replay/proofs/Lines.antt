@@ -18,7 +18,7 @@ use Rattle.rows.specs.declared.types.End.{End}
 use Rattle.rows.specs.declared.types.End.the-variants.{At, NoEnd}
 use Rattle.rows.proofs.Ends.{rowBefore, next-row, no-row}
 use Rattle.replay.specs.Rows.{bookBy, bookAfter, numberAfter, linesBy, linesAfter}
-use Rattle.replay.specs.Output.{waitsOn, goesOut, waitsAfter, writtenAfter, Alike, Answered, AnsweredUpTo}
+use Rattle.replay.specs.Output.{waitsOn, goesOut, waitsAfter, writtenAfter, Answered, AnsweredUpTo}
 use Rattle.replay.specs.declared.row.Replay.{Replay}
 
 -- ---- text that is put behind what waits
@@ -120,6 +120,13 @@ _then_ {s} {t} {u} {before} {between} {after} {xs} {ys} a b = record {
       ∙ rw (a .number, a .book, a .waits) (sym (waits-append (s .row) (s .book) (take (s .at) before) xs ys));
   broken = λ h. b .broken (a .broken h);
 }
+
+-- rows that have the same book, lines and output as others
+pub record Alike (n : ℕ) (b : Book) (text : List ℕ) (xs ys : List (List ℕ)) : Type 0 where
+  pub book : bookAfter b xs ≡ bookAfter b ys
+  pub lines : linesAfter n b xs ≡ linesAfter n b ys
+  pub waits : waitsAfter n b text xs ≡ waitsAfter n b text ys
+  pub written : writtenAfter n b text xs ≡ writtenAfter n b text ys
 
 -- rows count by their answers alone
 pub same-answers : (xs ys : List (List ℕ)) → map rowOf xs ≡ map rowOf ys → (n : ℕ) (b : Book) (text : List ℕ) → Alike n b text xs ys

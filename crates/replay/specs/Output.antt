@@ -13,7 +13,7 @@ use Rattle.rows.specs.Cut.{Cut}
 use Rattle.rows.specs.Row.{rowOf}
 use Rattle.rows.specs.Stream.{joined}
 use Rattle.replay.specs.Input.{Read, rowsBy, keptBy, goesOn, rowsUpTo}
-use Rattle.replay.specs.Rows.{bookBy, bookAfter, numberAfter, linesBy, linesAfter}
+use Rattle.replay.specs.Rows.{bookBy, bookAfter, numberAfter, linesBy}
 use Rattle.replay.specs.declared.Run.{Run}
 use Rattle.replay.specs.declared.row.Replay.{Replay}
 use Rattle.replay.specs.declared.row.Waiting.{Waiting}
@@ -38,13 +38,6 @@ writtenAfter n b text [] = []
 writtenAfter n b text (row ∷ rows) =
     goesOut (text ++ linesBy ((n + 1) % 2 ^ 64) b (rowOf row))
     ++ writtenAfter ((n + 1) % 2 ^ 64) (bookBy b (rowOf row)) (waitsOn (text ++ linesBy ((n + 1) % 2 ^ 64) b (rowOf row))) rows
-
--- rows that have the same book, lines and output as others
-pub record Alike (n : ℕ) (b : Book) (text : List ℕ) (xs ys : List (List ℕ)) : Type 0 where
-  pub book : bookAfter b xs ≡ bookAfter b ys
-  pub lines : linesAfter n b xs ≡ linesAfter n b ys
-  pub waits : waitsAfter n b text xs ≡ waitsAfter n b text ys
-  pub written : writtenAfter n b text xs ≡ writtenAfter n b text ys
 
 -- Rows are answered: from a replay and its buffer of output to another, the book, the number of the last row and what waits are
 -- those after these rows; and output that was broken off is not taken up again.
