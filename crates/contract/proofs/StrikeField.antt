@@ -22,12 +22,12 @@ use Rattle.decimal.proofs.Digits.{digit-of, digit-byte, digit-in}
 use Rattle.decimal.proofs.Reading.{capped-value, capped-none, capped-most}
 use Rattle.decimal.proofs.Numerals.{NoDigit, end-no-digit, byte-no-digit, after-numeral, numeral-read, numeral-text, length-some, length-below}
 use Rattle.decimal.proofs.Putting.{then}
-use Rattle.contract.specs.Scan.{onMark, byteAt}
+use Rattle.decimal.specs.Scan.{onMark, byteAt}
 use Rattle.contract.specs.Strike.{hundredthsText, strikeText, fractionAt, hundredthsAt, onHundredths, counted, strikeAt, onStrike}
-use Rattle.contract.specs.declared.strike.HundredthsRead.{HundredthsRead}
-use Rattle.contract.specs.declared.strike.HundredthsRead.the-variants.{Hundredths, NoHundredths}
-use Rattle.contract.specs.declared.strike.StrikeRead.{StrikeRead}
-use Rattle.contract.specs.declared.strike.StrikeRead.the-variants.{Strike, NoStrike}
+use Rattle.contract.specs.declared.types.HundredthsRead.{HundredthsRead}
+use Rattle.contract.specs.declared.types.HundredthsRead.the-variants.{Hundredths, NoHundredths}
+use Rattle.contract.specs.declared.types.StrikeRead.{StrikeRead}
+use Rattle.contract.specs.declared.types.StrikeRead.the-variants.{Strike, NoStrike}
 use Rattle.contract.proofs.Scanning.{after-mark, byte-read, byte-text}
 
 -- what follows the strike, by what its reader answered

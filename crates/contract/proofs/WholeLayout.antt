@@ -6,7 +6,7 @@ use native.Mathlib.Omega.{arith}
 use lib.ListN.{length, drop, take, take-append-drop}
 use lib.Seq.{drop-at, length-take-le}
 use Rattle.decimal.proofs.Places.{here-next}
-use Rattle.contract.specs.Scan.{onMark, byteAt}
+use Rattle.decimal.specs.Scan.{onMark, byteAt}
 use Rattle.contract.specs.Future.{futureAt}
 use Rattle.contract.specs.Date.{dateText, dateAt, onDate}
 use Rattle.contract.specs.Kind.{kindText, kindAt, onKind}
@@ -19,8 +19,8 @@ use Rattle.contract.specs.declared.types.Verdict.{Verdict}
 use Rattle.contract.specs.declared.types.Verdict.the-variants.{Accepted, Refused}
 use Rattle.contract.specs.declared.types.Read.{Read}
 use Rattle.contract.specs.declared.types.Read.the-variants.{Code, NoCode}
-use Rattle.contract.specs.declared.layout.LayoutRead.{LayoutRead}
-use Rattle.contract.specs.declared.layout.LayoutRead.the-variants.{Laid, NoLayout}
+use Rattle.contract.specs.declared.types.LayoutRead.{LayoutRead}
+use Rattle.contract.specs.declared.types.LayoutRead.the-variants.{Laid, NoLayout}
 use Rattle.contract.proofs.Scanning.{after-mark, byte-read, byte-text}
 use Rattle.contract.proofs.FutureField.{future-read, future-text}
 use Rattle.contract.proofs.DateField.{after-date, date-read, after-date-text, date-text}

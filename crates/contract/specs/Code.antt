@@ -5,7 +5,7 @@ use mathlib.Core.List.{List, [], _∷_, _++_}
 use lib.ListN.{length, take, replicate}
 use lib.Dec.{ltb, eqb}
 use Rattle.choice.specs.Choice.{choose}
-use Rattle.contract.specs.Scan.{onMark, byteAt}
+use Rattle.decimal.specs.Scan.{onMark, byteAt}
 use Rattle.contract.specs.Future.{FutureCode, futureAt}
 use Rattle.contract.specs.Date.{TwoDigitsEach, dateVerdict, dateText, dateAt, onDate}
 use Rattle.contract.specs.Kind.{kindText, kindAt, onKind}
@@ -18,8 +18,8 @@ use Rattle.contract.specs.declared.types.Verdict.the-variants.{Accepted,
 use Rattle.contract.specs.declared.types.Read.{Read}
 use Rattle.contract.specs.declared.types.Read.the-variants.{Code, NoCode}
 use Rattle.contract.specs.declared.types.Written.{Written}
-use Rattle.contract.specs.declared.layout.LayoutRead.{LayoutRead}
-use Rattle.contract.specs.declared.layout.LayoutRead.the-variants.{Laid, NoLayout}
+use Rattle.contract.specs.declared.types.LayoutRead.{LayoutRead}
+use Rattle.contract.specs.declared.types.LayoutRead.the-variants.{Laid, NoLayout}
 
 -- 01, "Refusals": the number of each
 unfoldable pub number : Refusal → ℕ

@@ -8,14 +8,14 @@ use Rattle.choice.specs.Choice.{choose}
 use Rattle.terms.specs.Bounds.{maxStrike}
 use Rattle.decimal.specs.Text.{digitByte, decimal}
 use Rattle.decimal.specs.Read.{digitOf, numeralAt, onNumeral}
-use Rattle.contract.specs.Scan.{onMark, byteAt}
+use Rattle.decimal.specs.Scan.{onMark, byteAt}
 use Rattle.contract.specs.declared.types.Refusal.the-variants.{StrikeText}
 use Rattle.contract.specs.declared.types.Verdict.{Verdict}
 use Rattle.contract.specs.declared.types.Verdict.the-variants.{Accepted, Refused}
-use Rattle.contract.specs.declared.strike.HundredthsRead.{HundredthsRead}
-use Rattle.contract.specs.declared.strike.HundredthsRead.the-variants.{Hundredths, NoHundredths}
-use Rattle.contract.specs.declared.strike.StrikeRead.{StrikeRead}
-use Rattle.contract.specs.declared.strike.StrikeRead.the-variants.{Strike, NoStrike}
+use Rattle.contract.specs.declared.types.HundredthsRead.{HundredthsRead}
+use Rattle.contract.specs.declared.types.HundredthsRead.the-variants.{Hundredths, NoHundredths}
+use Rattle.contract.specs.declared.types.StrikeRead.{StrikeRead}
+use Rattle.contract.specs.declared.types.StrikeRead.the-variants.{Strike, NoStrike}
 
 -- the text of so many hundredths after the units: none, the point and one digit, or the point and two
 unfoldable pub hundredthsText : ℕ → List ℕ

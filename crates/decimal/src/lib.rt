@@ -1,9 +1,12 @@
-// Decimal text: what its readers and writers share.
-pub mod put; // put.rt: text into a buffer that the caller lends
-pub mod read; // read.rt: digits and numbers in a slice of bytes
-
+// Decimal text: what its readers answer, and the rules of readers and writers.
 pub enum Numeral {
     // a number, and the place after its text
     Value { value: u64, next: usize },
     NoNumeral,
+}
+
+pub enum Mark {
+    // the place after what was read
+    Next(usize),
+    Broken,
 }

@@ -74,7 +74,7 @@ fn after(mut book: Book, from: usize, count: usize) -> Book
 {
     let mut n = 0;
     while n < count {
-        let step = book::step(book, event(from + n));
+        let step = clearing::step(book, event(from + n));
         book = step.book;
         n += 1;
     }
@@ -86,7 +86,7 @@ fn after(mut book: Book, from: usize, count: usize) -> Book
 pub extern "C" fn full_day_trades(days: u64) -> u64
     ensures { λ r. ⌜ r ≡ (days * (rule.traded .trades)) % 2 ^ 64 ⌝ }
 {
-    let listed = after(book::empty(), 0, SERIES);
+    let listed = after(clearing::empty(), 0, SERIES);
     let mut carried_out = 0;
     let mut n = 0;
     while n < days {
@@ -102,11 +102,11 @@ pub extern "C" fn full_day_trades(days: u64) -> u64
 pub extern "C" fn full_day_evenings(days: u64) -> u64
     ensures { λ r. ⌜ r ≡ (days * (rule.nextDay .day)) % 2 ^ 64 ⌝ }
 {
-    let full = after(book::empty(), 0, MARKS + SERIES);
+    let full = after(clearing::empty(), 0, MARKS + SERIES);
     let mut carried_out = 0;
     let mut n = 0;
     while n < days {
-        let step = book::step(full, Event::Evening);
+        let step = clearing::step(full, Event::Evening);
         carried_out = std::num::wrapping_add_u64(carried_out, step.book.day as u64);
         n += 1;
     }

@@ -1,4 +1,3 @@
-// What a session pays: the value of positions and of the day's trades, account by account, in kopecks.
-pub mod amounts;
-pub mod blotter;
+// What a session pays: the value of positions and of the day's trades, account by account, in kopecks. The rules, and a trade of
+// the blotter.
 pub mod trade;

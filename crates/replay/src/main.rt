@@ -1,61 +1,20 @@
 // Replays rows of events: standard input to standard output, in a loop that holds the book.
-mod number;
-mod row;
-
-use report::lines;
-use row::Replay;
-use row::Waiting;
-use row::answer_row;
-use row::flushed;
-use row::whole_rows;
-use rows::cut;
+use buffer_rows::whole_rows;
+use buffers::fill;
+use buffers::flushed;
+use buffers::keep;
+use row_step::answer_row;
+use stream::types::Input;
+use stream::types::Replay;
+use stream::types::Run;
+use stream::types::Waiting;
 ghost use Prim.Native.Nat.{_≤_, _<_};
 ghost use mathlib.Core.Path.{_≡_};
 ghost use mathlib.Core.Bool.{false};
-ghost use lib.ListN.{length, take, drop};
+ghost use lib.ListN.{length, take};
 ghost use Rattle.book.specs.Good.{Good};
 ghost use Rattle.rows.specs.Cut.{cut, lastRow, keptBytes, kept};
-ghost use Rattle.replay.specs.Input.{Within};
-ghost use Rattle.replay.specs.Output.{Answered, Turned, Replayed};
-
-// What a read gave: input up to a place of the buffer, its end, or an error.
-pub enum Input {
-    UpTo(usize),
-    Ended,
-    Failed,
-}
-
-// Reads once behind what is kept, where there is room: a read of no bytes is the input's end.
-fn fill(buf: &mut [u8], have: usize) -> Input
-    requires { ⌜ have < length (now buf) ⌝ }
-    ensures { λ r. ⌜ (Within have (length (now (buf .entry))) r) × (take have (now (buf .exit)) ≡ take have (now (buf .entry))) ⌝ }
-{
-    let got = libc::read(0, &mut buf[have..]);
-    if got < 0 {
-        return Input::Failed;
-    }
-    let n = io::count(got, &buf[have..]);
-    if n == 0 {
-        return Input::Ended;
-    }
-    Input::UpTo(have + n)
-}
-
-// Keeps what stands between two places of the buffer, at its front.
-fn keep(buf: &mut [u8], from: usize, end: usize) -> usize
-    requires { ⌜ end ≤ length (now buf) ⌝ }
-    ensures { λ r. ⌜ (r ≤ length (now (buf .entry))) × (r ≤ keptBytes) × (take r (now (buf .exit)) ≡ kept (drop from (take end (now (buf .entry))))) ⌝ }
-{
-    let start = cut::kept_from(from, end);
-    cut::move_down(&mut buf[..end], start)
-}
-
-// The replay, how many bytes of an unfinished row are kept at the buffer's front, and whether there is more to read.
-pub struct Run {
-    pub replay: Replay,
-    pub have: usize,
-    pub going: bool,
-}
+ghost use Rattle.stream.specs.Output.{Answered, Turned, Replayed};
 
 // The rows that end in the buffer, whose input goes up to a place.
 fn pass(buf: &mut [u8], out: &mut [u8], replay: Replay, end: usize) -> Run
@@ -120,7 +79,7 @@ fn replayed(buf: &mut [u8], out: &mut [u8]) -> Waiting
     ensures { λ r. ⌜ (r .at ≤ 28608) × Replayed (now (out .exit)) r ⌝ }
 {
     let at = lines::header(out, 0);
-    let book = book::empty();
+    let book = clearing::empty();
     let mut run = Run {
         replay: Replay {
             book: book,

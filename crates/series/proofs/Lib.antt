@@ -1,4 +1,2 @@
-pub mod Limits
-pub mod Settling
 pub mod Allowed
 pub mod Keeps

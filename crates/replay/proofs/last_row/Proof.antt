@@ -3,7 +3,7 @@ use mathlib.Core.Path.{refl, sym, _∙_}
 use native.Mathlib.Omega.{arith}
 use lib.ListN.{take}
 use lib.Seq.{length-take-le}
-use Rattle.replay.proofs.Lines.{row-answered, last-none, last-some}
+use Rattle.stream.proofs.Lines.{row-answered, last-none, last-some}
 use borrow.Author.Needs.{needs}
 use Rattle.replay.proofs.last_row.Statement.{statement}
 use Rattle.replay.proofs.last_row.Tie as tie

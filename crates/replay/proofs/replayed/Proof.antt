@@ -8,8 +8,8 @@ use lib.ListN.{length, take}
 use Rattle.book.specs.Good.{Good}
 use Rattle.rows.specs.Cut.{keptBytes}
 use Rattle.report.specs.Lines.{header}
-use Rattle.replay.proofs.Lines.{put-behind}
-use Rattle.replay.proofs.Turns.{Reached, begins, reached-more, replayed-uncounted, replayed-last}
+use Rattle.stream.proofs.Lines.{put-behind}
+use Rattle.stream.proofs.Turns.{Reached, begins, reached-more, replayed-uncounted, replayed-last}
 use Rattle.replay.proofs.replayed.Statement.{statement}
 use Rattle.replay.proofs.replayed.Tie as tie
 

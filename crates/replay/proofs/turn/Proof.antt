@@ -2,10 +2,10 @@
 use mathlib.Core.Path.{_≡_}
 use Prim.Native.Nat.{ℕ, _≤_, _<_}
 use native.Mathlib.Omega.{arith}
-use Rattle.replay.specs.Input.{Within}
-use Rattle.replay.specs.declared.Input.{Input}
-use Rattle.replay.specs.declared.Input.the-variants.{UpTo}
-use Rattle.replay.proofs.Turns.{behind, turned-piece, turned-end, turned-failure}
+use Rattle.stream.specs.Input.{Within}
+use Rattle.stream.specs.declared.types.Input.{Input}
+use Rattle.stream.specs.declared.types.Input.the-variants.{UpTo}
+use Rattle.stream.proofs.Turns.{behind, turned-piece, turned-end, turned-failure}
 use borrow.Author.Needs.{needs}
 use Rattle.replay.proofs.turn.Statement.{statement}
 use Rattle.replay.proofs.turn.Tie as tie

@@ -1,0 +1,102 @@
+// What an effect leaves of a series and of the blotter. The arrays are changed in place.
+use book::state::Answer;
+use book::state::Effect;
+use exercise::types::PLACES;
+use margin::trade::Trade;
+use requests::change::decline;
+use requests::change::request;
+use series::state::Mark;
+use terms::bounds::BLOTTER;
+use trading::change::trade;
+ghost use mathlib.Core.Path.{_≡_};
+ghost use Prim.Native.Nat.{_≤_};
+ghost use Rattle.integer.specs.Bounds.{Bounded};
+ghost use Rattle.terms.specs.Bounds.{blotterRoom, maxPosition};
+ghost use Rattle.book.specs.Effects as rule;
+ghost use Rattle.book.specs.State.{nextRecord};
+
+// A trade moves the positions of buyer and seller.
+pub fn move_positions(positions: &mut [i32; PLACES], effect: Effect)
+    requires { ⌜ (rule.Fits effect) × (Bounded maxPosition (now positions)) ⌝ }
+    ensures { λ r. ⌜ now (positions .exit) ≡ rule.positionsBy effect (now (positions .entry)) ⌝ }
+{
+    match effect {
+        Effect::Traded(t) => trade(positions, t.buyer, t.seller, t.quantity),
+        _ => {}
+    }
+}
+
+// A request replaces the account's earlier one, a refusal sets it to 0.
+pub fn set_request(requests: &mut [u32; PLACES], effect: Effect)
+    requires { ⌜ rule.Fits effect ⌝ }
+    ensures { λ r. ⌜ now (requests .exit) ≡ rule.requestsBy effect (now (requests .entry)) ⌝ }
+{
+    match effect {
+        Effect::Requested { account, quantity } => request(requests, account, quantity),
+        Effect::Declined { account } => request(requests, account, 0),
+        _ => {}
+    }
+}
+
+// A request lifts the account's refusal.
+pub fn set_refusal(declined: &mut [bool; PLACES], effect: Effect)
+    requires { ⌜ rule.Fits effect ⌝ }
+    ensures { λ r. ⌜ now (declined .exit) ≡ rule.refusalsBy effect (now (declined .entry)) ⌝ }
+{
+    match effect {
+        Effect::Requested { account, .. } => decline(declined, account, false),
+        Effect::Declined { account } => decline(declined, account, true),
+        _ => {}
+    }
+}
+
+// The mark of the series: a later one replaces an earlier one.
+pub fn mark(earlier: Mark, effect: Effect) -> Mark
+    ensures { λ r. ⌜ r ≡ rule.markBy effect earlier ⌝ }
+{
+    match effect {
+        Effect::Marked(m) => m,
+        _ => earlier,
+    }
+}
+
+// The place of the blotter's next record, or of its last one where the blotter is full.
+pub fn next_record(trades: usize) -> usize
+    ensures { λ r. ⌜ r ≡ nextRecord trades ⌝ }
+{
+    if trades < BLOTTER {
+        trades
+    } else {
+        BLOTTER - 1
+    }
+}
+
+// That record: a trade joins the blotter.
+pub fn joined(standing: Trade, effect: Effect) -> Trade
+    ensures { λ r. ⌜ r ≡ rule.recordBy effect standing ⌝ }
+{
+    match effect {
+        Effect::Traded(t) => t,
+        _ => standing,
+    }
+}
+
+// How many trades stand today.
+pub fn counted(standing: usize, effect: Effect) -> usize
+    requires { ⌜ standing ≤ blotterRoom ⌝ }
+    ensures { λ r. ⌜ r ≡ rule.tradesBy effect standing ⌝ }
+{
+    match effect {
+        Effect::Traded(_) => standing + 1,
+        _ => standing,
+    }
+}
+
+pub fn answer(effect: Effect) -> Answer
+    ensures { λ r. ⌜ r ≡ rule.answerBy effect ⌝ }
+{
+    match effect {
+        Effect::Refused(why) => Answer::Refused(why),
+        _ => Answer::Done,
+    }
+}

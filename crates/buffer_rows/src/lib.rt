@@ -1,0 +1,37 @@
+// All rows that end in a buffer.
+use buffers::flushed;
+use row_step::answer_row;
+use rows::types::End;
+use rows_in_place::series_rows;
+use stream::types::Passed;
+use stream::types::Replay;
+ghost use mathlib.Core.Path.{_≡_};
+ghost use mathlib.Core.List.{[]};
+ghost use Prim.Native.Nat.{_+_, _≤_};
+ghost use lib.ListN.{length, drop};
+ghost use Rattle.book.specs.Good.{Good};
+ghost use Rattle.rows.specs.Cut.{cut};
+ghost use Rattle.stream.specs.Output.{Answered};
+
+// The rows of a buffer that end in it.
+pub fn whole_rows(input: &[u8], out: &mut [u8], replay: Replay) -> Passed
+    requires { ⌜ (Good (replay .book)) × (replay .at ≤ 28608) × (65536 ≤ length (now out)) ⌝ }
+    ensures { λ r. ⌜ (Good (r .replay .book)) × (r .replay .at ≤ 28608) × (r .from ≤ length (now (input .entry))) × (cut (drop (r .from) (now (input .entry))) .rows ≡ []) × (drop (r .from) (now (input .entry)) ≡ cut (now (input .entry)) .rest) × Answered replay (now (out .entry)) (cut (now (input .entry)) .rows) (r .replay) (now (out .exit)) ⌝ }
+{
+    let mut now = replay;
+    let mut from = 0;
+    loop {
+        let some = series_rows(input, from, out, now);
+        let start = some.from;
+        let End::At(end) = row_cut::row_end(input, start) else {
+            return some;
+        };
+        let rest = some.replay;
+        let next = answer_row(&input[start..end], out, rest);
+        let waiting = flushed(out, next.at, next.intact);
+        now = next;
+        now.at = waiting.at;
+        now.intact = waiting.intact;
+        from = end + 2;
+    }
+}

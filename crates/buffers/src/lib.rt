@@ -1,0 +1,77 @@
+// The buffers of a replay: input that is read and kept, output that waits, and the replay up to a place of its input.
+use book::state::Book;
+use stream::types::Input;
+use stream::types::Passed;
+use stream::types::Replay;
+use stream::types::Waiting;
+ghost use Prim.Native.Nat.{_≤_, _<_, _+_};
+ghost use mathlib.Core.Path.{_≡_};
+ghost use mathlib.Core.Bool.{false};
+ghost use lib.ListN.{length, take, drop};
+ghost use Rattle.rows.specs.Cut.{keptBytes, kept};
+ghost use Rattle.stream.specs.Input.{Within};
+ghost use Rattle.stream.specs.Output.{waitsOn};
+
+// Reads once behind what is kept, where there is room: a read of no bytes is the input's end.
+pub fn fill(buf: &mut [u8], have: usize) -> Input
+    requires { ⌜ have < length (now buf) ⌝ }
+    ensures { λ r. ⌜ (Within have (length (now (buf .entry))) r) × (take have (now (buf .exit)) ≡ take have (now (buf .entry))) ⌝ }
+{
+    let got = libc::read(0, &mut buf[have..]);
+    if got < 0 {
+        return Input::Failed;
+    }
+    let n = io::count(got, &buf[have..]);
+    if n == 0 {
+        return Input::Ended;
+    }
+    Input::UpTo(have + n)
+}
+
+// Keeps what stands between two places of the buffer, at its front.
+pub fn keep(buf: &mut [u8], from: usize, end: usize) -> usize
+    requires { ⌜ end ≤ length (now buf) ⌝ }
+    ensures { λ r. ⌜ (r ≤ length (now (buf .entry))) × (r ≤ keptBytes) × (take r (now (buf .exit)) ≡ kept (drop from (take end (now (buf .entry))))) ⌝ }
+{
+    let start = row_cut::kept_from(from, end);
+    row_cut::move_down(&mut buf[..end], start)
+}
+
+// The replay up to a place of its buffer.
+pub fn up_to(book: Book, row: u64, at: usize, intact: bool, from: usize) -> Passed
+    ensures { λ r. ⌜ (r .replay .book ≡ book) × (r .replay .at ≡ at) × (r .from ≡ from) × (r .replay .row ≡ row) × (r .replay .intact ≡ intact) ⌝ }
+{
+    Passed {
+        replay: Replay {
+            book: book,
+            row: row,
+            at: at,
+            intact: intact,
+        },
+        from: from,
+    }
+}
+
+// Room for the lines of one more row: where there is none, what waits is written. Once that fails nothing more is.
+pub fn flushed(out: &mut [u8], end: usize, intact: bool) -> Waiting
+    requires { ⌜ end ≤ length (now out) ⌝ }
+    ensures { λ r. ⌜ (r .at ≤ 28608) × (take (r .at) (now (out .exit)) ≡ waitsOn (take end (now (out .entry)))) × (intact ≡ false → r .intact ≡ false) ⌝ }
+{
+    if end <= 28608 {
+        return Waiting {
+            at: end,
+            intact: intact,
+        };
+    }
+    if !intact {
+        return Waiting {
+            at: 0,
+            intact: false,
+        };
+    }
+    let written = io::write_all(1, &out[..end]);
+    Waiting {
+        at: 0,
+        intact: written,
+    }
+}

@@ -1,0 +1,87 @@
+// The clearing book: every event is carried out or refused, with the money of all accounts beside the answer.
+mod whole; // whole.rt: events on the whole book
+
+use book::state::Book;
+use book::state::Event;
+use book::state::Step;
+use listing::change::new_series;
+use margin::trade::Trade;
+use series::state::Listing;
+use terms::Category;
+use terms::OptionType;
+use terms::bounds::ACCOUNTS;
+use terms::bounds::BLOTTER;
+use terms::bounds::SERIES;
+ghost use mathlib.Core.Path.{_≡_};
+ghost use Rattle.book.specs.Good.{Good};
+ghost use Rattle.book.specs.State.{emptyBook};
+ghost use Rattle.book.specs.Step.{stepOf};
+
+// A book at day 0, with no series and all else 0.
+pub fn empty() -> Book
+    ensures { λ r. ⌜ (r ≡ emptyBook) × Good r ⌝ }
+{
+    let listing = Listing {
+        option: OptionType::Call,
+        category: Category::American,
+        strike: 0,
+        tick: 0,
+        last: 0,
+    };
+    let blank = new_series(listing);
+    let none = Trade {
+        series: 0,
+        buyer: 0,
+        seller: 0,
+        quantity: 0,
+        price: 0,
+    };
+    Book {
+        day: 0,
+        listed: 0,
+        series: [blank; SERIES],
+        blotter: [none; BLOTTER],
+        trades: 0,
+        intraday: false,
+        paid: [0i64; ACCOUNTS],
+        cash: [0i64; ACCOUNTS],
+    }
+}
+
+// What the book answers to an event. An event on one series is made in place; `event::whole` has the others.
+pub fn step(mut book: Book, event: Event) -> Step
+    requires { ⌜ Good book ⌝ }
+    ensures { λ r. ⌜ (r ≡ stepOf book event) × Good (r .book) ⌝ }
+{
+    let i = effect::series_of(event);
+    if SERIES <= i {
+        return whole::whole(book, event);
+    }
+    let mut s = book.series[i];
+    let listing = s.listing;
+    let effect = effect::effect(
+        listing,
+        &s.positions,
+        book.day,
+        book.listed,
+        book.trades,
+        event,
+    );
+    apply::move_positions(&mut s.positions, effect);
+    apply::set_request(&mut s.requests, effect);
+    apply::set_refusal(&mut s.declined, effect);
+    let mark = s.mark;
+    let marked = apply::mark(mark, effect);
+    s.mark = marked;
+    book.series[i] = s;
+    let n = apply::next_record(book.trades);
+    let next = book.blotter[n];
+    let joined = apply::joined(next, effect);
+    book.blotter[n] = joined;
+    book.trades = apply::counted(book.trades, effect);
+    Step {
+        answer: apply::answer(effect),
+        money: [0i64; ACCOUNTS],
+        book: book,
+    }
+}

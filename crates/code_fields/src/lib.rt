@@ -1,0 +1,4 @@
+// The fields of a contract code beside its date.
+pub mod future; // future.rt: the futures code
+pub mod kind; // kind.rt: the option's type and category
+pub mod strike; // strike.rt: the strike

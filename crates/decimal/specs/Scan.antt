@@ -1,0 +1,17 @@
+-- One byte of a code's layout (01, "Contract codes").
+use Prim.Native.Nat.{ℕ, _+_}
+use mathlib.Core.List.{List}
+use lib.ListN.{length, getD}
+use lib.Dec.{ltb, eqb}
+use Rattle.choice.specs.Choice.{choose}
+use Rattle.decimal.specs.declared.Mark.{Mark}
+use Rattle.decimal.specs.declared.Mark.the-variants.{Next, Broken}
+
+-- what follows a piece that was read, or the answer where it is broken
+unfoldable pub onMark : {A : Type 0} → Mark → A → (ℕ → A) → A
+onMark (Next n) broken next = next n
+onMark Broken broken next = broken
+
+-- the byte c stands at a place
+unfoldable pub byteAt : List ℕ → ℕ → ℕ → Mark
+byteAt s at c = choose (ltb at (length s)) (choose (eqb (getD s at 0) c) (Next (at + 1)) Broken) Broken

@@ -1,0 +1,93 @@
+// One line of the output, of at most 64 bytes. Each function puts its text at a place of the buffer and returns the place after it.
+use book::state::Found;
+ghost use mathlib.Core.List.{[], _∷_, _++_};
+ghost use Prim.Native.Nat.{_+_, _≤_};
+ghost use lib.ListN.{length};
+ghost use Rattle.decimal.specs.Put.{Put};
+ghost use Rattle.decimal.specs.Text.{decimal};
+ghost use Rattle.report.specs.Lines as text;
+ghost use Rattle.report.specs.Report as rule;
+
+// The line that the output begins with.
+pub fn header(out: &mut [u8], at: usize) -> usize
+    requires { ⌜ at + 64 ≤ length (now out) ⌝ }
+    ensures { λ r. ⌜ Put (now (out .entry)) at text.header (now (out .exit)) r ⌝ }
+    ensures { λ r. ⌜ r ≤ at + 64 ⌝ }
+{
+    put::bytes(out, at, b"row,kind,series,account,amount\r\n")
+}
+
+// Row and kind.
+fn begin(out: &mut [u8], at: usize, row: u64, kind: u8) -> usize
+    requires { ⌜ at + 23 ≤ length (now out) ⌝ }
+    ensures { λ r. ⌜ Put (now (out .entry)) at (text.heading row kind) (now (out .exit)) r ⌝ }
+    ensures { λ r. ⌜ r ≤ at + 23 ⌝ }
+{
+    let comma = line_fields::number(out, at, row);
+    let letter = put::byte(out, comma, b',');
+    let next = put::byte(out, letter, kind);
+    put::byte(out, next, b',')
+}
+
+// An account, with the commas around it.
+fn account(out: &mut [u8], at: usize, a: u8) -> usize
+    requires { ⌜ at + 5 ≤ length (now out) ⌝ }
+    ensures { λ r. ⌜ Put (now (out .entry)) at (44 ∷ (decimal a ++ 44 ∷ [])) (now (out .exit)) r ⌝ }
+    ensures { λ r. ⌜ r ≤ at + 5 ⌝ }
+{
+    let digits = put::byte(out, at, b',');
+    let comma = line_fields::index(out, digits, a);
+    put::byte(out, comma, b',')
+}
+
+// The end of a line.
+fn end(out: &mut [u8], at: usize) -> usize
+    requires { ⌜ at + 2 ≤ length (now out) ⌝ }
+    ensures { λ r. ⌜ Put (now (out .entry)) at text.crlf (now (out .exit)) r ⌝ }
+{
+    put::bytes(out, at, b"\r\n")
+}
+
+// The number of an answer, with the series that it names.
+pub fn answer(out: &mut [u8], at: usize, row: u64, found: Found, number: u64) -> usize
+    requires { ⌜ at + 64 ≤ length (now out) ⌝ }
+    ensures { λ r. ⌜ Put (now (out .entry)) at (rule.answerLine row found number) (now (out .exit)) r ⌝ }
+    ensures { λ r. ⌜ r ≤ at + 64 ⌝ }
+{
+    let series = begin(out, at, row, b'A');
+    let commas = line_fields::series(out, series, found);
+    let digits = put::bytes(out, commas, b",,");
+    let next = line_fields::number(out, digits, number);
+    end(out, next)
+}
+
+// The money of an account, where it is not 0.
+pub fn money(out: &mut [u8], at: usize, row: u64, a: u8, amount: i64) -> usize
+    requires { ⌜ at + 64 ≤ length (now out) ⌝ }
+    ensures { λ r. ⌜ Put (now (out .entry)) at (rule.moneyLine row a amount) (now (out .exit)) r ⌝ }
+    ensures { λ r. ⌜ r ≤ at + 64 ⌝ }
+{
+    if amount == 0 {
+        return at;
+    }
+    let comma = begin(out, at, row, b'M');
+    let roubles = account(out, comma, a);
+    let next = line_fields::amount(out, roubles, amount);
+    end(out, next)
+}
+
+// The futures that arose for an account in series i, where there are any.
+pub fn futures(out: &mut [u8], at: usize, row: u64, i: u8, a: u8, arisen: i64) -> usize
+    requires { ⌜ at + 64 ≤ length (now out) ⌝ }
+    ensures { λ r. ⌜ Put (now (out .entry)) at (rule.futuresLine row i a arisen) (now (out .exit)) r ⌝ }
+    ensures { λ r. ⌜ r ≤ at + 64 ⌝ }
+{
+    if arisen == 0 {
+        return at;
+    }
+    let series = begin(out, at, row, b'F');
+    let comma = line_fields::index(out, series, i);
+    let count = account(out, comma, a);
+    let next = line_fields::count(out, count, arisen);
+    end(out, next)
+}

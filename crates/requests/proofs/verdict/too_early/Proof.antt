@@ -1,0 +1,22 @@
+-- `series::too_early` meets its contract.
+use Rattle.series.specs.Verdicts.{tooEarly}
+use borrow.Author.Needs.{needs}
+use Rattle.requests.proofs.verdict.too_early.Statement.{statement}
+use Rattle.requests.proofs.verdict.too_early.Tie as tie
+
+enum-told : tie.Need-enum-told
+enum-told c = search needs
+
+enum-told-2 : tie.Need-enum-told-2
+enum-told-2 c = search needs
+
+returns : tie.Need-returns
+unfolding tooEarly
+returns c = rw (c .enum-told .given .1)
+
+returns-2 : tie.Need-returns-2
+unfolding tooEarly
+returns-2 c = rw (c .enum-told2 .given .1)
+
+pub too-early-spec : {M : Type 1} → statement M
+too-early-spec = tie.close (tie.spec enum-told enum-told-2 returns returns-2)

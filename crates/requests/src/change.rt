@@ -1,0 +1,24 @@
+use exercise::types::PLACES;
+ghost use mathlib.Core.Path.{_≡_};
+ghost use Prim.Native.Nat.{_<_};
+ghost use lib.ListN.{set};
+ghost use Rattle.terms.specs.Bounds.{accounts};
+ghost use Rattle.series.specs.Series.{placeOf};
+
+// The account's request replaces the earlier one.
+pub fn request(requests: &mut [u32; PLACES], account: u8, quantity: u32)
+    requires { ⌜ account < accounts ⌝ }
+    ensures { λ r. ⌜ now (requests .exit) ≡ set (now (requests .entry)) (placeOf account) quantity ⌝ }
+{
+    let a = account as usize;
+    requests[a] = quantity;
+}
+
+// The account refuses exercise, or lifts its refusal.
+pub fn decline(declined: &mut [bool; PLACES], account: u8, refuses: bool)
+    requires { ⌜ account < accounts ⌝ }
+    ensures { λ r. ⌜ now (declined .exit) ≡ set (now (declined .entry)) (placeOf account) refuses ⌝ }
+{
+    let a = account as usize;
+    declined[a] = refuses;
+}

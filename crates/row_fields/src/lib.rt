@@ -1,0 +1,85 @@
+// The fields of a row. Each stands behind a comma and is read with it; its reader answers the place after it, or that there is none.
+use decimal::Numeral;
+use rows::types::ByteRead;
+use rows::types::End;
+ghost use mathlib.Core.Path.{_≡_};
+ghost use Rattle.rows.specs.Field.{shortAt, numberAt, heldInByte, byteAt, codeOn, codeEnd};
+ghost use lib.ListN.{drop};
+
+// The most digits of a number, and the least number with more.
+const MAX_DIGITS: usize = 18;
+
+const TOO_LARGE: u64 = 1000000000000000000;
+
+// A number of at most 18 digits.
+fn short(s: &[u8], at: usize) -> Numeral
+    ensures { λ r. ⌜ r ≡ shortAt (now (s .entry)) at ⌝ }
+{
+    let Numeral::Value { value, next } = scan::numeral(s, at, TOO_LARGE) else {
+        return Numeral::NoNumeral;
+    };
+    if MAX_DIGITS < next - at {
+        return Numeral::NoNumeral;
+    }
+    Numeral::Value { value, next }
+}
+
+pub fn number(s: &[u8], at: usize) -> Numeral
+    ensures { λ r. ⌜ r ≡ numberAt (now (s .entry)) at ⌝ }
+{
+    if s.len() <= at {
+        return Numeral::NoNumeral;
+    }
+    if s[at] != b',' {
+        return Numeral::NoNumeral;
+    }
+    short(s, at + 1)
+}
+
+fn held_in_byte(v: u64) -> u8
+    ensures { λ r. ⌜ r ≡ heldInByte v ⌝ }
+{
+    if v < 255 { v as u8 } else { 255 }
+}
+
+pub fn byte(s: &[u8], at: usize) -> ByteRead
+    ensures { λ r. ⌜ r ≡ byteAt (now (s .entry)) at ⌝ }
+{
+    let Numeral::Value { value, next } = number(s, at) else {
+        return ByteRead::NoByte;
+    };
+    ByteRead::Byte {
+        value: held_in_byte(value),
+        next,
+    }
+}
+
+// The comma that ends a code, from a place on.
+fn code_from(s: &[u8], from: usize) -> End
+    ensures { λ r. ⌜ r ≡ codeOn from (drop from (now (s .entry))) ⌝ }
+{
+    let mut i = from;
+    while i < s.len() {
+        if s[i] == b',' {
+            return End::At(i);
+        }
+        if s[i] == b'"' {
+            return End::NoEnd;
+        }
+        i += 1;
+    }
+    End::NoEnd
+}
+
+// A code's bytes, up to the comma of the next field.
+pub fn code_end(s: &[u8], at: usize) -> End
+    ensures { λ r. ⌜ r ≡ codeEnd (now (s .entry)) at ⌝ }
+{
+    if s.len() <= at {
+        return End::NoEnd;
+    }
+    if s[at] != b',' {
+        return End::NoEnd;
+    }
+    code_from(s, at + 1)
+}

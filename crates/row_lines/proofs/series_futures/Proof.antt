@@ -1,0 +1,111 @@
+-- `report::session::series_futures` meets its contract: the lines of the accounts passed stand in the buffer.
+use mathlib.Core.Path.{_≡_, refl}
+use Prim.Native.Nat.{ℕ, _+_, _-_, _*_, _≤_}
+use native.Mathlib.Omega.{arith}
+use lib.Dec.{lit<}
+use lib.ListN.{length}
+use mir.Syntax.{w32, w64}
+use borrow.Author.Needs.{needs}
+use Rattle.decimal.specs.Put.{Put}
+use Rattle.integer.specs.Sum.{at}
+use Rattle.integer.specs.Machine.{Reads, any, minus, local, fits}
+use Rattle.report.specs.Report.{arisen, futuresLine, seriesLines}
+use Rattle.report.specs.Lines.{joined}
+use Rattle.report.proofs.Fields.{text-of}
+use Rattle.report.proofs.Joined.{joined-put, joined-next, element-fits}
+use Rattle.row_lines.proofs.series_futures.Statement.{statement}
+use Rattle.row_lines.proofs.series_futures.Tie as tie
+
+abbrev Inv-loop : tie.InvT-loop
+Inv-loop out₀ place row i before after next₀ a₀ out next a =
+    (a ≤ 64) × (length out ≡ length out₀) × (next ≤ place + a * 64) × Put out₀ place (joined a (λ a. futuresLine row i a (arisen before after a))) out next
+
+abbrev μ-loop : tie.MeasureT-loop
+μ-loop out₀ place row i before after next₀ a₀ out next a = 64 - a
+
+-- each account's futures are numbers of 32 bits, and their difference is one of 64
+module _ (c : tie.Start Inv-loop μ-loop) (a : ℕ) where
+  abbrev earlier : Reads 2147483648 (at (c .args .t5) a)
+  earlier = any w32 (element-fits w32 (lit< tt) 64 (c .args .t5) _ (c .good .1 .1 .1 .1 .0) a)
+
+  abbrev later : Reads 2147483648 (at (c .args .t6) a)
+  later = any w32 (element-fits w32 (lit< tt) 64 (c .args .t6) _ (c .good .1 .1 .1 .1 .1 .0) a)
+
+  abbrev difference : Reads 4294967296 (arisen (c .args .t5) (c .args .t6) a)
+  difference = minus (local w64 later tt) (local w64 earlier tt)
+
+loop-holds : tie.Need-loop-holds Inv-loop μ-loop
+loop-holds c = (omega arith, refl, omega arith, joined-put _ _ _)
+
+mul-arisen : tie.Need-mul-arisen Inv-loop μ-loop
+mul-arisen c = search needs
+
+array-copy-out-arisen : tie.Need-array-copy-out-arisen Inv-loop μ-loop
+array-copy-out-arisen c = search needs
+
+cast-arisen : tie.Need-cast-arisen Inv-loop μ-loop
+cast-arisen c = fits w64 (later (c .before .before .before .before) (c .before .before .loop .a)) tt
+
+mul-arisen-2 : tie.Need-mul-arisen-2 Inv-loop μ-loop
+mul-arisen-2 c = search needs
+
+array-copy-out-arisen-2 : tie.Need-array-copy-out-arisen-2 Inv-loop μ-loop
+array-copy-out-arisen-2 c = search needs
+
+cast-arisen-2 : tie.Need-cast-arisen-2 Inv-loop μ-loop
+cast-arisen-2 c = fits w64 (earlier (c .before .before .before .before .before) (c .before .before .before .loop .a)) tt
+
+sub-arisen : tie.Need-sub-arisen Inv-loop μ-loop
+sub-arisen c = fits w64 (difference (c .before .before .before .before .before) (c .before .before .before .loop .a)) tt
+
+cast-futures : tie.Need-cast-futures Inv-loop μ-loop
+cast-futures c = search needs
+
+futures-requires : tie.Need-futures-requires Inv-loop μ-loop
+futures-requires c κs = omega arith
+
+add-a : tie.Need-add-a Inv-loop μ-loop
+add-a c = search needs
+
+loop-less : tie.Need-loop-less Inv-loop μ-loop
+loop-less c = search needs
+
+loop-again : tie.Need-loop-again Inv-loop μ-loop
+loop-again c =
+    let start = c .before .before .before .before .before .before .before .before .before in
+    let loop = c .before .before .before .before .before .before .before in
+    let a = loop .loop .a in
+    let put = text-of (futuresLine (start .args .row) (start .args .i) a) (local w64 (difference start a) tt .is) (c .before .before .futures .ensures .0) in
+    (omega arith, search needs, omega (arith, c .before .before .futures .ensures .1), joined-next a _ (loop .loop .inv .3) put)
+
+same-length : tie.Need-same-length Inv-loop μ-loop
+same-length c = c .before .loop .inv .1
+
+returns : tie.Need-returns Inv-loop μ-loop
+unfolding seriesLines
+returns c =
+    let loop = c .before .loop in
+    let all : loop .a ≡ 64 = omega arith in
+    (rw all at (loop .inv .3), omega arith)
+
+pub series-futures-spec : {M : Type 1} → statement M
+series-futures-spec =
+    tie.close
+    (tie.spec
+    Inv-loop
+    μ-loop
+    loop-holds
+    mul-arisen
+    array-copy-out-arisen
+    cast-arisen
+    mul-arisen-2
+    array-copy-out-arisen-2
+    cast-arisen-2
+    sub-arisen
+    cast-futures
+    futures-requires
+    add-a
+    loop-less
+    loop-again
+    same-length
+    returns)

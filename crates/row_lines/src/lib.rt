@@ -1,0 +1,100 @@
+// The lines of a row that is an event. Each function puts its text at a place of the buffer and returns the place after it.
+use book::state::Answer;
+use book::state::Step;
+use exercise::types::PLACES;
+use series::state::Series;
+use terms::bounds::ACCOUNTS;
+use terms::bounds::SERIES;
+ghost use Prim.Native.Nat.{_+_, _≤_};
+ghost use lib.ListN.{length};
+ghost use Rattle.decimal.specs.Put.{Put};
+ghost use Rattle.report.specs.Report as rule;
+
+// The line of an answer.
+pub fn answered(out: &mut [u8], at: usize, row: u64, answer: Answer) -> usize
+    requires { ⌜ at + 64 ≤ length (now out) ⌝ }
+    ensures { λ r. ⌜ Put (now (out .entry)) at (rule.answerOf row answer) (now (out .exit)) r ⌝ }
+    ensures { λ r. ⌜ r ≤ at + 64 ⌝ }
+{
+    let found = answers::named(answer);
+    let number = answers::answer_number(answer);
+    lines::answer(out, at, row, found, number)
+}
+
+// The money of all accounts.
+pub fn money(out: &mut [u8], at: usize, row: u64, money: [i64; ACCOUNTS]) -> usize
+    requires { ⌜ at + 4096 ≤ length (now out) ⌝ }
+    ensures { λ r. ⌜ Put (now (out .entry)) at (rule.moneyLines row money) (now (out .exit)) r ⌝ }
+    ensures { λ r. ⌜ r ≤ at + 4096 ⌝ }
+{
+    let mut next = at;
+    let mut a: usize = 0;
+    while a < ACCOUNTS {
+        next = lines::money(out, next, row, a as u8, money[a]);
+        a += 1;
+    }
+    next
+}
+
+// The futures that arose in series i: those of each account after the session less those before it.
+fn series_futures(
+    out: &mut [u8],
+    at: usize,
+    row: u64,
+    i: u8,
+    before: [i32; PLACES],
+    after: [i32; PLACES],
+) -> usize
+    requires { ⌜ at + 4096 ≤ length (now out) ⌝ }
+    ensures { λ r. ⌜ Put (now (out .entry)) at (rule.seriesLines row i before after) (now (out .exit)) r ⌝ }
+    ensures { λ r. ⌜ r ≤ at + 4096 ⌝ }
+{
+    let mut next = at;
+    let mut a: usize = 0;
+    while a < ACCOUNTS {
+        let arisen = after[a] as i64 - before[a] as i64;
+        next = lines::futures(out, next, row, i, a as u8, arisen);
+        a += 1;
+    }
+    next
+}
+
+// The futures that arose in all series.
+pub fn futures(
+    out: &mut [u8],
+    at: usize,
+    row: u64,
+    before: [Series; SERIES],
+    after: [Series; SERIES],
+) -> usize
+    requires { ⌜ at + 32768 ≤ length (now out) ⌝ }
+    ensures { λ r. ⌜ Put (now (out .entry)) at (rule.futuresLines row before after) (now (out .exit)) r ⌝ }
+    ensures { λ r. ⌜ r ≤ at + 32768 ⌝ }
+{
+    let mut next = at;
+    let mut i: usize = 0;
+    while i < SERIES {
+        let old = before[i];
+        let new = after[i];
+        let held = old.futures;
+        let now = new.futures;
+        next = series_futures(out, next, row, i as u8, held, now);
+        i += 1;
+    }
+    next
+}
+
+// All lines of a row: its answer, the money of all accounts, and the futures that arose. `before` is the series before its step.
+pub fn report(out: &mut [u8], at: usize, row: u64, before: [Series; SERIES], step: Step) -> usize
+    requires { ⌜ at + 36928 ≤ length (now out) ⌝ }
+    ensures { λ r. ⌜ Put (now (out .entry)) at (rule.reportOf row before step) (now (out .exit)) r ⌝ }
+    ensures { λ r. ⌜ r ≤ at + 36928 ⌝ }
+{
+    let answer = step.answer;
+    let paid = step.money;
+    let book = step.book;
+    let after = book.series;
+    let first = answered(out, at, row, answer);
+    let next = money(out, first, row, paid);
+    futures(out, next, row, before, after)
+}

@@ -1,0 +1,234 @@
+// The row of each kind of event: its fields in order, and then the end of the row.
+use book::state::Event;
+use contract::types::Read;
+use decimal::Numeral;
+use rows::types::ByteRead;
+use rows::types::End;
+use rows::types::Refusal;
+use rows::types::Row;
+ghost use mathlib.Core.Path.{_≡_};
+ghost use Rattle.rows.specs.Row.{atEnd, listing, listRow, tradeRow, exerciseRow, declineRow, markRow, intradayRow, eveningRow};
+
+// An event whose row has to end at a place.
+fn at_end(s: &[u8], at: usize, event: Event) -> Row
+    ensures { λ r. ⌜ r ≡ atEnd (now (s .entry)) at event ⌝ }
+{
+    if at == s.len() {
+        return Row::Accepted(event);
+    }
+    Row::Refused(Refusal::Row)
+}
+
+// A listing by the terms of its code.
+fn listing(code: &[u8], tick: u64, last: u64) -> Row
+    ensures { λ r. ⌜ r ≡ listing (now (code .entry)) tick last ⌝ }
+{
+    match code::read(code) {
+        Read::NoCode(refusal) => Row::Refused(Refusal::Code(refusal)),
+        Read::Code { future: _, terms } => {
+            let option = terms.option;
+            let category = terms.category;
+            Row::Accepted(Event::List {
+                option,
+                category,
+                strike: terms.strike,
+                tick,
+                last,
+            })
+        }
+    }
+}
+
+// L,code,R,last day. The code is judged once the row is whole.
+pub fn list(s: &[u8]) -> Row
+    ensures { λ r. ⌜ r ≡ listRow (now (s .entry)) ⌝ }
+{
+    let End::At(a) = row_fields::code_end(s, 1) else {
+        return Row::Refused(Refusal::Row);
+    };
+    let Numeral::Value {
+        value: tick,
+        next: b,
+    } = row_fields::number(s, a)
+    else {
+        return Row::Refused(Refusal::Row);
+    };
+    let Numeral::Value {
+        value: last,
+        next: c,
+    } = row_fields::number(s, b)
+    else {
+        return Row::Refused(Refusal::Row);
+    };
+    if c != s.len() {
+        return Row::Refused(Refusal::Row);
+    }
+    listing(&s[2..a], tick, last)
+}
+
+// T,series,buyer,seller,quantity,price
+pub fn trade(s: &[u8]) -> Row
+    ensures { λ r. ⌜ r ≡ tradeRow (now (s .entry)) ⌝ }
+{
+    let ByteRead::Byte {
+        value: series,
+        next: a,
+    } = row_fields::byte(s, 1)
+    else {
+        return Row::Refused(Refusal::Row);
+    };
+    let ByteRead::Byte {
+        value: buyer,
+        next: b,
+    } = row_fields::byte(s, a)
+    else {
+        return Row::Refused(Refusal::Row);
+    };
+    let ByteRead::Byte {
+        value: seller,
+        next: c,
+    } = row_fields::byte(s, b)
+    else {
+        return Row::Refused(Refusal::Row);
+    };
+    let Numeral::Value {
+        value: quantity,
+        next: d,
+    } = row_fields::number(s, c)
+    else {
+        return Row::Refused(Refusal::Row);
+    };
+    let Numeral::Value {
+        value: price,
+        next: e,
+    } = row_fields::number(s, d)
+    else {
+        return Row::Refused(Refusal::Row);
+    };
+    at_end(
+        s,
+        e,
+        Event::Trade {
+            series,
+            buyer,
+            seller,
+            quantity,
+            price,
+        },
+    )
+}
+
+// X,series,account,quantity
+pub fn exercise(s: &[u8]) -> Row
+    ensures { λ r. ⌜ r ≡ exerciseRow (now (s .entry)) ⌝ }
+{
+    let ByteRead::Byte {
+        value: series,
+        next: a,
+    } = row_fields::byte(s, 1)
+    else {
+        return Row::Refused(Refusal::Row);
+    };
+    let ByteRead::Byte {
+        value: account,
+        next: b,
+    } = row_fields::byte(s, a)
+    else {
+        return Row::Refused(Refusal::Row);
+    };
+    let Numeral::Value {
+        value: quantity,
+        next: c,
+    } = row_fields::number(s, b)
+    else {
+        return Row::Refused(Refusal::Row);
+    };
+    at_end(
+        s,
+        c,
+        Event::Exercise {
+            series,
+            account,
+            quantity,
+        },
+    )
+}
+
+// D,series,account
+pub fn decline(s: &[u8]) -> Row
+    ensures { λ r. ⌜ r ≡ declineRow (now (s .entry)) ⌝ }
+{
+    let ByteRead::Byte {
+        value: series,
+        next: a,
+    } = row_fields::byte(s, 1)
+    else {
+        return Row::Refused(Refusal::Row);
+    };
+    let ByteRead::Byte {
+        value: account,
+        next: b,
+    } = row_fields::byte(s, a)
+    else {
+        return Row::Refused(Refusal::Row);
+    };
+    at_end(s, b, Event::Decline { series, account })
+}
+
+// M,series,option,futures,W
+pub fn mark(s: &[u8]) -> Row
+    ensures { λ r. ⌜ r ≡ markRow (now (s .entry)) ⌝ }
+{
+    let ByteRead::Byte {
+        value: series,
+        next: a,
+    } = row_fields::byte(s, 1)
+    else {
+        return Row::Refused(Refusal::Row);
+    };
+    let Numeral::Value {
+        value: option,
+        next: b,
+    } = row_fields::number(s, a)
+    else {
+        return Row::Refused(Refusal::Row);
+    };
+    let Numeral::Value {
+        value: future,
+        next: c,
+    } = row_fields::number(s, b)
+    else {
+        return Row::Refused(Refusal::Row);
+    };
+    let Numeral::Value {
+        value: tick_value,
+        next: d,
+    } = row_fields::number(s, c)
+    else {
+        return Row::Refused(Refusal::Row);
+    };
+    at_end(
+        s,
+        d,
+        Event::Mark {
+            series,
+            option,
+            future,
+            tick_value,
+        },
+    )
+}
+
+// I
+pub fn intraday(s: &[u8]) -> Row
+    ensures { λ r. ⌜ r ≡ intradayRow (now (s .entry)) ⌝ }
+{
+    at_end(s, 1, Event::Intraday)
+}
+
+// V
+pub fn evening(s: &[u8]) -> Row
+    ensures { λ r. ⌜ r ≡ eveningRow (now (s .entry)) ⌝ }
+{
+    at_end(s, 1, Event::Evening)
+}

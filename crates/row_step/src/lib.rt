@@ -1,0 +1,99 @@
+// One row: its event is carried out or refused, and its lines are put behind what waits.
+use book::state::Book;
+use book::state::Event;
+use book::state::Found;
+use rows::types::Row;
+use stream::types::Replay;
+ghost use mathlib.Core.Path.{_≡_};
+ghost use mathlib.Core.Bool.{false};
+ghost use Prim.Native.Nat.{_+_, _%_, _^_, _≤_};
+ghost use lib.ListN.{length};
+ghost use Rattle.book.specs.Good.{Good};
+ghost use Rattle.book.specs.Step.{stepOf};
+ghost use Rattle.decimal.specs.Put.{Put};
+ghost use Rattle.report.specs.Report.{isSession, reportOf};
+ghost use Rattle.rows.specs.Row.{rowOf};
+ghost use Rattle.stream.specs.Rows.{bookBy, linesBy};
+
+fn is_session(event: Event) -> bool
+    ensures { λ r. ⌜ r ≡ isSession event ⌝ }
+{
+    match event {
+        Event::List { .. } => false,
+        Event::Trade { .. } => false,
+        Event::Exercise { .. } => false,
+        Event::Decline { .. } => false,
+        Event::Mark { .. } => false,
+        Event::Intraday => true,
+        Event::Evening => true,
+    }
+}
+
+// A session: its step, and all its lines.
+fn session_row(
+    out: &mut [u8],
+    at: usize,
+    intact: bool,
+    row: u64,
+    book: Book,
+    event: Event,
+) -> Replay
+    requires { ⌜ (Good book) × (at + 36928 ≤ length (now out)) ⌝ }
+    ensures { λ r. ⌜ (Good (r .book)) × (r .at ≤ at + 36928) × (r .row ≡ row) × (r .book ≡ stepOf book event .book) × Put (now (out .entry)) at (reportOf row (book .series) (stepOf book event)) (now (out .exit)) (r .at) × (r .intact ≡ intact) ⌝ }
+{
+    let before = book.series;
+    let step = clearing::step(book, event);
+    let next = row_lines::report(out, at, row, before, step);
+    let after = step.book;
+    Replay {
+        book: after,
+        row: row,
+        at: next,
+        intact: intact,
+    }
+}
+
+// An event that is no session: its step, and its answer, which is all its report.
+fn event_row(out: &mut [u8], at: usize, intact: bool, row: u64, book: Book, event: Event) -> Replay
+    requires { ⌜ (Good book) × (at + 36928 ≤ length (now out)) × (isSession event ≡ false) ⌝ }
+    ensures { λ r. ⌜ (Good (r .book)) × (r .at ≤ at + 36928) × (r .row ≡ row) × (r .book ≡ stepOf book event .book) × Put (now (out .entry)) at (reportOf row (book .series) (stepOf book event)) (now (out .exit)) (r .at) × (r .intact ≡ intact) ⌝ }
+{
+    let step = clearing::step(book, event);
+    let answer = step.answer;
+    let next = row_lines::answered(out, at, row, answer);
+    let after = step.book;
+    Replay {
+        book: after,
+        row: row,
+        at: next,
+        intact: intact,
+    }
+}
+
+// One row: its event is carried out or refused, and its lines are written.
+pub fn answer_row(bytes: &[u8], out: &mut [u8], replay: Replay) -> Replay
+    requires { ⌜ (Good (replay .book)) × (replay .at + 36928 ≤ length (now out)) ⌝ }
+    ensures { λ r. ⌜ (Good (r .book)) × (r .at ≤ replay .at + 36928) × (r .row ≡ (replay .row + 1) % 2 ^ 64) × (r .book ≡ bookBy (replay .book) (rowOf (now (bytes .entry)))) × Put (now (out .entry)) (replay .at) (linesBy (r .row) (replay .book) (rowOf (now (bytes .entry)))) (now (out .exit)) (r .at) × (r .intact ≡ replay .intact) ⌝ }
+{
+    let row = std::num::wrapping_add_u64(replay.row, 1);
+    let book = replay.book;
+    let at = replay.at;
+    let intact = replay.intact;
+    match row_reader::read_row(bytes) {
+        Row::Refused(why) => {
+            let next = lines::answer(out, at, row, Found::Nothing, answers::number::of_row(why));
+            Replay {
+                book: book,
+                row: row,
+                at: next,
+                intact: intact,
+            }
+        }
+        Row::Accepted(event) => {
+            if is_session(event) {
+                return session_row(out, at, intact, row, book, event);
+            }
+            event_row(out, at, intact, row, book, event)
+        }
+    }
+}

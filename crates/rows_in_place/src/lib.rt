@@ -1,0 +1,67 @@
+// Rows that are events on one series: they are carried out in the book where it stands.
+use buffers::flushed;
+use buffers::up_to;
+use rows::types::End;
+use rows::types::Row;
+use stream::types::Passed;
+use stream::types::Replay;
+use terms::bounds::SERIES;
+ghost use Prim.Native.Nat.{_+_, _≤_};
+ghost use lib.ListN.{length, drop};
+ghost use Rattle.book.specs.Good.{Good};
+ghost use Rattle.rows.specs.Cut.{cut};
+ghost use Rattle.stream.specs.Output.{AnsweredUpTo};
+
+// From a place of a buffer on, the rows that are events on one series, up to the first other row. The book stays where it is: each
+// row changes one series of it, and the blotter.
+pub fn series_rows(input: &[u8], start: usize, out: &mut [u8], replay: Replay) -> Passed
+    requires { ⌜ (Good (replay .book)) × (replay .at ≤ 28608) × (65536 ≤ length (now out)) × (start ≤ length (now input)) ⌝ }
+    ensures { λ r. ⌜ (Good (r .replay .book)) × (r .replay .at ≤ 28608) × (start ≤ r .from) × (r .from ≤ length (now (input .entry))) × AnsweredUpTo replay (now (out .entry)) (cut (drop start (now (input .entry)))) (r .replay) (now (out .exit)) (cut (drop (r .from) (now (input .entry)))) ⌝ }
+{
+    let mut book = replay.book;
+    let mut row = replay.row;
+    let mut at = replay.at;
+    let mut intact = replay.intact;
+    let mut from = start;
+    loop {
+        let End::At(end) = row_cut::row_end(input, from) else {
+            return up_to(book, row, at, intact, from);
+        };
+        let Row::Accepted(event) = row_reader::read_row(&input[from..end]) else {
+            return up_to(book, row, at, intact, from);
+        };
+        let i = effect::series_of(event);
+        if SERIES <= i {
+            return up_to(book, row, at, intact, from);
+        }
+        let mut s = book.series[i];
+        let listing = s.listing;
+        let effect = effect::effect(
+            listing,
+            &s.positions,
+            book.day,
+            book.listed,
+            book.trades,
+            event,
+        );
+        apply::move_positions(&mut s.positions, effect);
+        apply::set_request(&mut s.requests, effect);
+        apply::set_refusal(&mut s.declined, effect);
+        let mark = s.mark;
+        let marked = apply::mark(mark, effect);
+        s.mark = marked;
+        book.series[i] = s;
+        let n = apply::next_record(book.trades);
+        let next = book.blotter[n];
+        let joined = apply::joined(next, effect);
+        book.blotter[n] = joined;
+        book.trades = apply::counted(book.trades, effect);
+        let answer = apply::answer(effect);
+        row = std::num::wrapping_add_u64(row, 1);
+        let end_of_line = row_lines::answered(out, at, row, answer);
+        let waiting = flushed(out, end_of_line, intact);
+        at = waiting.at;
+        intact = waiting.intact;
+        from = end + 2;
+    }
+}

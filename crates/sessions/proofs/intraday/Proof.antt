@@ -1,0 +1,113 @@
+-- `book::intraday` meets its contract: its tests are those of the verdict, and its work that of the session.
+use mathlib.Core.Path.{_≡_, _∙_}
+use mathlib.Core.Bool.{true}
+use native.Mathlib.Omega.{arith}
+use Rattle.choice.specs.Choice.{hit, past, tests}
+use Rattle.integer.specs.Bounds.{bounded-table, within-le}
+use Rattle.integer.specs.Table.{table}
+use Rattle.terms.specs.Bounds.{accounts}
+use Rattle.book.specs.Sessions.{intradayMoney, paidInto}
+use Rattle.book.specs.declared.state.Answer.the-variants.{Done}
+use Rattle.book.specs.declared.state.Event.the-variants.{Intraday}
+use Rattle.book.proofs.Money.{intraday-within, cash-bounded}
+use Rattle.book.proofs.Outcome.{by-refusal, by-allowance, mark-missing, none-missing}
+use Rattle.book.proofs.SessionMoney.{unmarked-bounded, intraday-is, paid-into}
+use borrow.Author.Needs.{needs}
+use Rattle.sessions.proofs.intraday.Statement.{statement}
+use Rattle.sessions.proofs.intraday.Tie as tie
+
+abbrev start : tie.After-enum-told → tie.Start
+start c = c .before .before .before .before .before .before
+
+-- the money is the rule's
+money : (c : tie.After-variation-margin) → c .variation-margin .result ≡ table accounts (intradayMoney (start (c .before .before) .args .book))
+money c =
+    let s = start (c .before .before) in
+    c .variation-margin .ensures ∙ intraday-is (s .args .book) (s .pre) _ (c .before .unmark-all .ensures)
+
+cash : (c : tie.After-pay) → c .pay .result ≡ paidInto (start (c .before .before .before .before) .args .book .cash) (intradayMoney (start (c .before .before .before .before) .args .book))
+cash c =
+    let k = start (c .before .before .before .before) .args .book in
+    c .pay .ensures ∙ paid-into (k .cash) (intradayMoney k) _ (money (c .before .before))
+
+refused-requires : tie.Need-refused-requires
+refused-requires c κs = search needs
+
+returns : tie.Need-returns
+returns c = by-refusal _ Intraday (c .refused .ensures) (search (hit, past, tests))
+
+refused-requires-2 : tie.Need-refused-requires-2
+refused-requires-2 c κs = search needs
+
+returns-2 : tie.Need-returns-2
+returns-2 c = by-refusal _ Intraday (c .refused2 .ensures) (search (hit, past, tests))
+
+first-unmarked-requires : tie.Need-first-unmarked-requires
+first-unmarked-requires c κs = search needs
+
+enum-known-i : tie.Need-enum-known-i
+enum-known-i c = search needs
+
+refused-requires-3 : tie.Need-refused-requires-3
+refused-requires-3 c κs = search needs
+
+returns-3 : tie.Need-returns-3
+returns-3 c = by-refusal _ Intraday (c .refused3 .ensures) (search (hit, past, tests, mark-missing))
+
+enum-told : tie.Need-enum-told
+enum-told c = search needs
+
+unmark-all-requires : tie.Need-unmark-all-requires
+unmark-all-requires c κs = search needs
+
+variation-margin-requires : tie.Need-variation-margin-requires
+variation-margin-requires c κs =
+    let s = start (c .before) in
+    (s .pre, unmarked-bounded (s .args .book) (s .pre) _ (c .unmark-all .ensures))
+
+pay-requires : tie.Need-pay-requires
+pay-requires c κs =
+    let s = start (c .before .before .before) in (
+      cash-bounded (s .args .book) (s .pre),
+      rw (money (c .before)) (bounded-table accounts (intradayMoney (s .args .book)) (λ a lt. within-le (intraday-within (s .args .book) (s .pre) a) (omega arith))),
+    )
+
+returns-4 : tie.Need-returns-4
+returns-4 c =
+    let v = c .before .before in
+    let s = start (v .before .before) in
+    let k = s .args .book in
+    by-allowance _ Intraday
+    (λ i. record {
+      answer = Done;
+      money = money v i;
+      book = record {
+        day = k .day;
+        listed = k .listed;
+        series = v .before .unmark-all .ensures i;
+        blotter = k .blotter;
+        trades = k .trades;
+        intraday = true;
+        paid = money v i;
+        cash = cash c i;
+      };
+    })
+    (past _ (search tests) (past _ (search tests) (search none-missing)))
+
+pub intraday-spec : {M : Type 1} → statement M
+intraday-spec =
+    tie.close
+    (tie.spec
+    refused-requires
+    returns
+    refused-requires-2
+    returns-2
+    first-unmarked-requires
+    enum-known-i
+    refused-requires-3
+    returns-3
+    enum-told
+    unmark-all-requires
+    variation-margin-requires
+    pay-requires
+    returns-4)

@@ -1,0 +1,80 @@
+// The two sessions.
+use amounts::less;
+use amounts::pay;
+use book::state::Answer;
+use book::state::Book;
+use book::state::Event;
+use book::state::Found;
+use book::state::Step;
+use marking::missing::first_unmarked;
+use refusing::refused;
+use series::refusal::Refusal;
+use session_margin::variation_margin;
+use settling::settle_all;
+use settling::unmark_all;
+use terms::bounds::ACCOUNTS;
+use terms::bounds::FINAL_DAY;
+ghost use mathlib.Core.Path.{_≡_};
+ghost use Rattle.series.specs.declared.refusal.Refusal.the-variants.{Finished};
+ghost use Rattle.book.specs.Good.{Good};
+ghost use Rattle.book.specs.Step as rule;
+ghost use Rattle.book.specs.declared.state.Event as happening;
+
+// Each account receives the variation margin so far, and the marks are dropped.
+pub fn intraday(mut book: Book) -> Step
+    requires { ⌜ Good book ⌝ }
+    ensures { λ r. ⌜ r ≡ rule.stepOf book happening.Event.Intraday ⌝ }
+{
+    if FINAL_DAY < book.day {
+        return refused(book, Refusal::Finished);
+    }
+    if book.intraday {
+        return refused(book, Refusal::SecondIntraday);
+    }
+    if let Found::At(i) = first_unmarked(book) {
+        return refused(book, Refusal::NoMark(i));
+    }
+    let series = unmark_all(book);
+    let money = variation_margin(book, series);
+    let cash = book.cash;
+    let paid = pay(cash, money);
+    book.series = series;
+    book.intraday = true;
+    book.paid = money;
+    book.cash = paid;
+    Step {
+        answer: Answer::Done,
+        money: money,
+        book: book,
+    }
+}
+
+// First exercise, then money, then expiry: each account receives the day's variation margin less what the intraday session paid.
+pub fn evening(mut book: Book) -> Step
+    requires { ⌜ Good book ⌝ }
+    ensures { λ r. ⌜ r ≡ rule.stepOf book happening.Event.Evening ⌝ }
+{
+    if FINAL_DAY < book.day {
+        return refused(book, Refusal::Finished);
+    }
+    if let Found::At(i) = first_unmarked(book) {
+        return refused(book, Refusal::NoMark(i));
+    }
+    let series = settle_all(book);
+    let margin = variation_margin(book, series);
+    let before = book.paid;
+    let money = less(margin, before);
+    let cash = book.cash;
+    let paid = pay(cash, money);
+    book.series = series;
+    book.day = book.day + 1;
+    book.trades = 0;
+    book.intraday = false;
+    book.paid = [0i64; ACCOUNTS];
+    book.cash = paid;
+    Step {
+        answer: Answer::Done,
+        money: money,
+        book: book,
+    }
+}

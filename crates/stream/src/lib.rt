@@ -1,0 +1,2 @@
+// A replay of the whole input: what it holds between rows and reads, and the rules of what it answers.
+pub mod types;

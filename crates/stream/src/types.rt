@@ -1,0 +1,36 @@
+use book::state::Book;
+ghost use Rattle.rows.specs.Cut.{kept};
+
+// The book, the rows answered so far, the bytes of output that wait to be written, and whether all before them were.
+pub struct Replay {
+    pub book: Book,
+    pub row: u64,
+    pub at: usize,
+    pub intact: bool,
+}
+
+// What waits of the output, and whether the output before it is whole.
+pub struct Waiting {
+    pub at: usize,
+    pub intact: bool,
+}
+
+// The replay after the whole rows of a buffer, and where the unfinished row starts.
+pub struct Passed {
+    pub replay: Replay,
+    pub from: usize,
+}
+
+// What a read gave: input up to a place of the buffer, its end, or an error.
+pub enum Input {
+    UpTo(usize),
+    Ended,
+    Failed,
+}
+
+// The replay, how many bytes of an unfinished row are kept at the buffer's front, and whether there is more to read.
+pub struct Run {
+    pub replay: Replay,
+    pub have: usize,
+    pub going: bool,
+}
