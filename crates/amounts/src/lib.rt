@@ -7,8 +7,7 @@ ghost use mathlib.Core.Path.{_≡_};
 ghost use lib.IntN.{pos, _+ℤ_, _-ℤ_};
 ghost use Prim.Native.Nat.{_≤_};
 ghost use Rattle.integer.specs.Bounds.{Bounded};
-ghost use Rattle.integer.specs.Sum.{at};
-ghost use Rattle.integer.specs.Table.{table};
+ghost use Rattle.integer.specs.Table.{at, table};
 ghost use Rattle.terms.specs.Bounds.{accounts, maxPosition};
 ghost use Rattle.margin.specs.Margin.{revalued};
 

@@ -3,8 +3,8 @@ use mathlib.Core.Path.{_≡_, refl}
 use Prim.Native.Nat.{ℕ, _<_}
 use native.Mathlib.Omega.{arith}
 use lib.ListN.{getD-replicate}
-use Rattle.integer.specs.Bounds.{within-pos, bounded-zeros}
-use Rattle.integer.specs.Sum.{at-zeros, sum-zeros}
+use Rattle.integer.proofs.Bounds.{within-pos, bounded-zeros}
+use Rattle.integer.proofs.Sum.{at-zeros, sum-zeros}
 use Rattle.terms.specs.Bounds.{accounts, seriesRoom}
 use Rattle.series.specs.Series.{newSeries}
 use Rattle.series.proofs.Keeps.{good-new}

@@ -7,9 +7,12 @@ use native.Mathlib.Omega.{arith}
 use lib.IntN.{ℤ, pos, _+ℤ_, _-ℤ_, +ℤ-idr, +ℤ-negℤ-cancel}
 use lib.ListN.{getD, List·getD-eq-default}
 use Rattle.choice.specs.Choice.{choose}
-use Rattle.integer.specs.Bounds.{Within, within-pos, bounded-table, bounded-zeros}
-use Rattle.integer.specs.Sum.{sumTo, at, at-zeros, sum-zeros, sum-add, sum-table}
-use Rattle.integer.specs.Table.{table, length-table, getD-table}
+use Rattle.integer.specs.Bounds.{Within}
+use Rattle.integer.proofs.Bounds.{within-pos, bounded-table, bounded-zeros}
+use Rattle.integer.specs.Table.{at, table}
+use Rattle.integer.specs.Sum.{sumTo}
+use Rattle.integer.proofs.Sum.{at-zeros, sum-zeros, sum-add, sum-table}
+use Rattle.integer.proofs.Table.{length-table, getD-table}
 use Rattle.terms.specs.Bounds.{accounts, seriesRoom}
 use Rattle.series.specs.Changes.{unmarked, settled}
 use Rattle.series.specs.Good.{GoodSeries}

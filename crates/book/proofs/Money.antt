@@ -5,9 +5,12 @@ use Prim.Native.Nat.{ℕ, _+_, _*_, _<_}
 use native.Mathlib.Omega.{arith}
 use lib.IntN.{ℤ, pos, _+ℤ_, _-ℤ_, _*ℤ_, zero-*ℤ, -ℤ-+ℤ-cancel}
 use Rattle.choice.specs.Choice.{choose}
-use Rattle.integer.specs.Bounds.{Within, Bounded, within-le, within-add, within-sub, within-sum}
-use Rattle.integer.specs.Ring.{split, ring, ⊖-eq}
-use Rattle.integer.specs.Sum.{sumTo, at, sum-0, sum-ext, sum-sub, sum-mulr, sum-swap}
+use Rattle.integer.specs.Bounds.{Within, Bounded}
+use Rattle.integer.proofs.Bounds.{within-le, within-add, within-sub, within-sum}
+use Rattle.integer.proofs.Ring.{split, ring, ⊖-eq}
+use Rattle.integer.specs.Table.{at}
+use Rattle.integer.specs.Sum.{sumTo}
+use Rattle.integer.proofs.Sum.{sum-0, sum-ext, sum-sub, sum-mulr, sum-swap}
 use Rattle.margin.specs.Margin.{worth, costIn}
 use Rattle.margin.proofs.Cost.{costIn-balances, traded-small}
 use Rattle.terms.specs.Bounds.{accounts, seriesRoom, maxPosition}

@@ -7,8 +7,9 @@ use lib.IntN.{ℤ, pos, _+ℤ_}
 use lib.ListN.{getD}
 use Rattle.choice.specs.Choice.{choose}
 use Rattle.integer.specs.Bounds.{Bounded}
-use Rattle.integer.specs.Sum.{sum-ext, at}
-use Rattle.integer.specs.Table.{table, table-ext, getD-table}
+use Rattle.integer.specs.Table.{at, table}
+use Rattle.integer.proofs.Sum.{sum-ext}
+use Rattle.integer.proofs.Table.{table-ext, getD-table}
 use Rattle.series.specs.Changes.{unmarked, settled, closing}
 use Rattle.series.specs.Series.{positionOf}
 use Rattle.series.specs.declared.state.Series.{Series}

@@ -15,9 +15,8 @@ use Rattle.choice.specs.Choice.{choose}
 use Rattle.exercise.specs.Assignment.{rank, assigned}
 use Rattle.exercise.specs.Evening as exercise
 use Rattle.exercise.specs.Exercise.{inTheMoney, half, automatic, exercised}
-use Rattle.integer.specs.NatSum.{sumℕ}
-use Rattle.integer.specs.Sum.{sumTo, at}
-use Rattle.integer.specs.Table.{table}
+use Rattle.integer.specs.Sum.{sumℕ, sumTo}
+use Rattle.integer.specs.Table.{at, table}
 use Rattle.margin.specs.Margin.{signed, cost, costIn}
 use Rattle.series.specs.Refusals.{_then_}
 use Rattle.series.specs.Verdicts.{passesLimit}

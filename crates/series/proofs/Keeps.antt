@@ -10,9 +10,12 @@ use Rattle.choice.specs.Choice.{choose}
 use Rattle.exercise.specs.Places.{places, amount, flag}
 use Rattle.exercise.specs.Evening.{remaining}
 use Rattle.exercise.proofs.Session.{remaining-in-all, remaining-within, arisen-in-all, arisen-within}
-use Rattle.integer.specs.Bounds.{Within, within-le, within-pos, within-add, bounded-le, bounded-set, bounded-table, bounded-zeros}
-use Rattle.integer.specs.Sum.{sumTo, at, sum-0, sum-add, sum-table, sum-zeros, sum-move-list}
-use Rattle.integer.specs.Table.{table, length-table}
+use Rattle.integer.specs.Bounds.{Within}
+use Rattle.integer.proofs.Bounds.{within-le, within-pos, within-add, bounded-le, bounded-set, bounded-table, bounded-zeros}
+use Rattle.integer.specs.Table.{at, table}
+use Rattle.integer.specs.Sum.{sumTo}
+use Rattle.integer.proofs.Sum.{sum-0, sum-add, sum-table, sum-zeros, sum-move-list}
+use Rattle.integer.proofs.Table.{length-table}
 use Rattle.terms.specs.Bounds.{maxPosition}
 use Rattle.series.specs.Changes.{withRequests, traded, requested, declinedBy, marked, unmarked, fixingOf, closing, newFutures, settled}
 use Rattle.series.specs.Good.{Balanced, GoodSeries}

@@ -10,9 +10,10 @@ use Rattle.exercise.specs.Places.{places, amount, flag}
 use Rattle.exercise.specs.Evening.{outcome, remaining, arisen}
 use Rattle.exercise.specs.declared.types.Outcome.{Outcome}
 use Rattle.exercise.proofs.Session.{arisen-within}
-use Rattle.integer.specs.Bounds.{Bounded, bounded-table}
-use Rattle.integer.specs.Sum.{at}
-use Rattle.integer.specs.Table.{table, table-ext, getD-table, replicate-table}
+use Rattle.integer.specs.Bounds.{Bounded}
+use Rattle.integer.proofs.Bounds.{bounded-table}
+use Rattle.integer.specs.Table.{at, table}
+use Rattle.integer.proofs.Table.{table-ext, getD-table, replicate-table}
 use Rattle.terms.specs.Bounds.{maxPosition}
 use Rattle.series.specs.Changes.{fixingOf, closing, newFutures}
 use Rattle.series.specs.Good.{GoodSeries}

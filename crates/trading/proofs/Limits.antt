@@ -6,7 +6,7 @@ use native.Mathlib.Omega.{arith}
 use lib.IntN.{ℤ, pos, negsuc}
 use lib.Signed.{ltZ}
 use borrow.Author.Tests.{ltb-true}
-use Rattle.integer.specs.Order.{leb-iff}
+use Rattle.integer.proofs.Order.{leb-iff}
 use Rattle.series.specs.Verdicts.{passesLimit}
 
 pub limit-short : (p : ℤ) → ltZ p (pos 0) ≡ true → ltZ p (negsuc 99999) ≡ passesLimit p

@@ -9,11 +9,12 @@ use native.Mathlib.Decide.{decLt}
 use native.Mathlib.Omega.{arith}
 use lib.IntN.{ℤ, pos}
 use lib.ListN.{length, getD-replicate, replicate, List·getD-eq-default}
-use Rattle.integer.specs.Absolute.{abs-parts}
+use Rattle.integer.proofs.Absolute.{abs-parts}
 use Rattle.integer.specs.Bounds.{Bounded}
-use Rattle.integer.specs.NatSum.{sumℕ, sumℕ-ext, sumℕ-bound}
-use Rattle.integer.specs.Sum.{sumTo, at}
-use Rattle.integer.specs.Table.{table, length-table, getD-table, is-table, table-ext}
+use Rattle.integer.specs.Sum.{sumℕ, sumTo}
+use Rattle.integer.proofs.NatSum.{sumℕ-ext, sumℕ-bound}
+use Rattle.integer.specs.Table.{at, table}
+use Rattle.integer.proofs.Table.{length-table, getD-table, is-table, table-ext}
 use Rattle.terms.specs.Bounds.{maxPosition}
 use Rattle.exercise.specs.declared.types.Fixing.{Fixing}
 use Rattle.exercise.specs.declared.types.Outcome.{Outcome}

@@ -13,9 +13,11 @@ use native.Mathlib.Omega.{arith}
 use lib.Dec.{ltb}
 use lib.ListN.{length, set, length-set}
 use lib.Seq.{getD-set-same, getD-set-other}
-use Rattle.integer.specs.NatSum.{sumℕ, sumℕ-ext}
-use Rattle.integer.specs.Count.{bit, count, count-mono}
-use Rattle.integer.specs.Table.{table, length-table, getD-table, is-table}
+use Rattle.integer.specs.Sum.{sumℕ, bit, count}
+use Rattle.integer.proofs.NatSum.{sumℕ-ext}
+use Rattle.integer.proofs.Count.{count-mono}
+use Rattle.integer.specs.Table.{table}
+use Rattle.integer.proofs.Table.{length-table, getD-table, is-table}
 use Rattle.exercise.specs.Places.{amount}
 use Rattle.exercise.specs.Assignment.{wholePart, remainder, leftOver, ahead, rank, assigned}
 use Rattle.exercise.proofs.Ranks.{is-false, is-true, larger, is-ahead, ahead-irrefl, ahead-trans, ahead-ext, rank-distinct, rank-count, rank-ext, test-past}

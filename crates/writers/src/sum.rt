@@ -1,7 +1,7 @@
 use exercise::types::PLACES;
 ghost use mathlib.Core.Path.{_≡_};
 ghost use Prim.Native.Nat.{_<_, _^_};
-ghost use Rattle.integer.specs.NatSum.{sumℕ};
+ghost use Rattle.integer.specs.Sum.{sumℕ};
 ghost use Rattle.exercise.specs.Places.{places, amount};
 
 // A number in 64 bits.

@@ -2,7 +2,7 @@
 use borrow.Author.Needs.{needs}
 use lib.IntN.{pos, _-ℤ_}
 use mir.Syntax.{w32}
-use Rattle.integer.specs.Machine.{Reads, nat, minus, local, fits}
+use Rattle.integer.proofs.Machine.{Reads, nat, minus, local, fits}
 use Rattle.exercise.specs.Evening.{futures}
 use Rattle.delivery.proofs.futures.Statement.{statement}
 use Rattle.delivery.proofs.futures.Tie as tie

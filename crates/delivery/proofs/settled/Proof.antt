@@ -7,9 +7,9 @@ use lib.IntN.{ℤ, pos}
 use mir.Syntax.{w32}
 use mir.Val.{SFits}
 use mir.Facts.{toZ-ofZ}
-use Rattle.integer.specs.Machine.{param, passed}
-use Rattle.integer.specs.Sum.{at}
-use Rattle.integer.specs.Table.{Filled, filled-start, filled-next, filled-all}
+use Rattle.integer.proofs.Machine.{param, passed}
+use Rattle.integer.specs.Table.{at}
+use Rattle.integer.proofs.Table.{Filled, filled-start, filled-next, filled-all}
 use Rattle.exercise.specs.Places.{places, amount}
 use Rattle.exercise.specs.Evening.{shrunk, futures}
 use Rattle.delivery.proofs.settled.Statement.{statement}

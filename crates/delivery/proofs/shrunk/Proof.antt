@@ -2,7 +2,7 @@
 use borrow.Author.Needs.{needs}
 use lib.IntN.{pos, _+ℤ_, _-ℤ_}
 use mir.Syntax.{w32}
-use Rattle.integer.specs.Machine.{Reads, param, nat, plus, minus, local, fits}
+use Rattle.integer.proofs.Machine.{Reads, param, nat, plus, minus, local, fits}
 use Rattle.exercise.specs.Evening.{shrunk}
 use Rattle.delivery.proofs.shrunk.Statement.{statement}
 use Rattle.delivery.proofs.shrunk.Tie as tie

@@ -1,7 +1,7 @@
 use borrow.Author.Tests.{eq-eqb, ne-eqb}
 use borrow.Author.Needs.{needs}
 use mathlib.Core.Path.{refl, sym, _∙_}
-use Rattle.choice.specs.Choice.{hit, past}
+use Rattle.choice.proofs.Chain.{hit, past}
 use Rattle.exercise.specs.Exercise.{automatic}
 use Rattle.holders.proofs.automatic.Statement.{statement}
 use Rattle.holders.proofs.automatic.Tie as tie

@@ -3,7 +3,7 @@ use borrow.Author.Needs.{needs}
 use mathlib.Core.Path.{_≡_, refl, ap, ap₂, _∙_}
 use Prim.Native.Nat.{min, max}
 use mir.Facts.{toZ-ofZ}
-use Rattle.choice.specs.Choice.{hit, past}
+use Rattle.choice.proofs.Chain.{hit, past}
 use Rattle.exercise.specs.Exercise.{held, automatic, exercised}
 use Rattle.holders.proofs.exercised.Statement.{statement}
 use Rattle.holders.proofs.exercised.Tie as tie

@@ -7,8 +7,8 @@ use lib.IntN.{ℤ}
 use mir.Syntax.{w32}
 use mir.Val.{SFits}
 use mir.Facts.{toZ-ofZ}
-use Rattle.integer.specs.Sum.{at}
-use Rattle.integer.specs.Table.{Filled, filled-start, filled-next, filled-all}
+use Rattle.integer.specs.Table.{at}
+use Rattle.integer.proofs.Table.{Filled, filled-start, filled-next, filled-all}
 use Rattle.exercise.specs.Places.{places, amount, flag}
 use Rattle.exercise.specs.Exercise.{exercised}
 use Rattle.exercise.specs.Evening.{exercisedAt}

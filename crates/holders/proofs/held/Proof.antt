@@ -3,11 +3,11 @@ use mathlib.Core.Path.{_≡_}
 use native.Mathlib.Omega.{arith}
 use lib.IntN.{pos}
 use mir.Syntax.{w32}
-use Rattle.integer.specs.Ring.{part⁻}
-use Rattle.integer.specs.Order.{lt-yes, lt-no}
-use Rattle.integer.specs.Machine.{any, lit, less, unsigned-gives}
+use Rattle.integer.specs.Parts.{part⁻}
+use Rattle.integer.proofs.Order.{lt-yes, lt-no}
+use Rattle.integer.proofs.Machine.{any, lit, less, unsigned-gives}
 use Rattle.exercise.proofs.Sides.{one-side}
-use Rattle.exercise.proofs.Casts.{cast-asks}
+use Rattle.integer.proofs.Casts.{cast-asks}
 use Rattle.holders.proofs.held.Statement.{statement}
 use Rattle.holders.proofs.held.Tie as tie
 

@@ -8,7 +8,7 @@ use mir.Syntax.{w64}
 use borrow.Author.Needs.{needs}
 use Rattle.decimal.specs.Text.{twoDigits}
 use Rattle.decimal.specs.Text.{decimal}
-use Rattle.integer.specs.Machine.{any}
+use Rattle.integer.proofs.Machine.{any}
 use Rattle.report.specs.Lines.{sign, amountText}
 use Rattle.report.proofs.Fields.{_then_, text-of, roubles-length}
 use Rattle.line_fields.proofs.amount.Statement.{statement}

@@ -6,7 +6,7 @@ use mir.Val.{toZ, ofZ}
 use mir.Syntax.{w64}
 use borrow.Author.Needs.{needs}
 use Rattle.decimal.specs.Text.{decimal}
-use Rattle.integer.specs.Machine.{any}
+use Rattle.integer.proofs.Machine.{any}
 use Rattle.report.specs.Lines.{sign, countText}
 use Rattle.report.proofs.Fields.{_then_, text-of, magnitude-length}
 use Rattle.line_fields.proofs.count.Statement.{statement}

@@ -7,9 +7,9 @@ use native.Mathlib.Omega.{arith}
 use lib.IntN.{pos, natAbs, _+ℤ_, _-ℤ_}
 use lib.Signed.{mag, ltZ}
 use mir.Syntax.{w64}
-use Rattle.integer.specs.Absolute.{abs-sfits}
-use Rattle.integer.specs.Bounds.{within-pos}
-use Rattle.integer.specs.Machine.{Reads, any, lit, plus, minus, local, less, fits, unsigned-asks, unsigned-gives}
+use Rattle.integer.proofs.Absolute.{abs-sfits}
+use Rattle.integer.proofs.Bounds.{within-pos}
+use Rattle.integer.proofs.Machine.{Reads, any, lit, plus, minus, local, less, fits, unsigned-asks, unsigned-gives}
 use Rattle.line_fields.proofs.WithoutSign.{one-up-within, turned, one-more, not-below}
 use Rattle.line_fields.proofs.magnitude.Statement.{statement}
 use Rattle.line_fields.proofs.magnitude.Tie as tie

@@ -3,7 +3,7 @@ use native.Mathlib.Omega.{arith}
 use lib.IntN.{pos}
 use mir.Syntax.{w64}
 use borrow.Author.Needs.{needs}
-use Rattle.integer.specs.Machine.{any, lit, less}
+use Rattle.integer.proofs.Machine.{any, lit, less}
 use Rattle.report.proofs.Fields.{minus-put, no-sign-put}
 use Rattle.line_fields.proofs.put_sign.Statement.{statement}
 use Rattle.line_fields.proofs.put_sign.Tie as tie

@@ -2,7 +2,7 @@
 use native.Mathlib.Omega.{arith}
 use mir.Syntax.{w64}
 use borrow.Author.Needs.{needs}
-use Rattle.integer.specs.Machine.{any}
+use Rattle.integer.proofs.Machine.{any}
 use Rattle.report.specs.Lines.{countText}
 use Rattle.report.proofs.OneLine.{futures-put, no-futures-put}
 use Rattle.report.proofs.Fields.{text-of}

@@ -2,7 +2,7 @@
 use native.Mathlib.Omega.{arith}
 use mir.Syntax.{w64}
 use borrow.Author.Needs.{needs}
-use Rattle.integer.specs.Machine.{any}
+use Rattle.integer.proofs.Machine.{any}
 use Rattle.report.specs.Lines.{amountText}
 use Rattle.report.proofs.OneLine.{money-put, no-money-put}
 use Rattle.report.proofs.Fields.{text-of}

@@ -9,7 +9,7 @@ use mir.Val.{SFits}
 use mir.Syntax.{w64}
 use borrow.Author.Needs.{needs}
 use Rattle.decimal.specs.Put.{Put}
-use Rattle.integer.specs.Sum.{at}
+use Rattle.integer.specs.Table.{at}
 use Rattle.report.specs.Report.{moneyLine}
 use Rattle.report.specs.Lines.{joined}
 use Rattle.report.proofs.Fields.{text-of}

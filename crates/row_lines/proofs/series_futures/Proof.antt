@@ -7,8 +7,8 @@ use lib.ListN.{length}
 use mir.Syntax.{w32, w64}
 use borrow.Author.Needs.{needs}
 use Rattle.decimal.specs.Put.{Put}
-use Rattle.integer.specs.Sum.{at}
-use Rattle.integer.specs.Machine.{Reads, any, minus, local, fits}
+use Rattle.integer.specs.Table.{at}
+use Rattle.integer.proofs.Machine.{Reads, any, minus, local, fits}
 use Rattle.report.specs.Report.{arisen, futuresLine, seriesLines}
 use Rattle.report.specs.Lines.{joined}
 use Rattle.report.proofs.Fields.{text-of}

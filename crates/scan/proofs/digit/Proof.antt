@@ -1,6 +1,7 @@
 -- `decimal::read::digit` meets its contract.
 use borrow.Author.Needs.{needs}
-use Rattle.choice.specs.Choice.{choose, tests}
+use Rattle.choice.specs.Choice.{choose}
+use Rattle.choice.proofs.Chain.{tests}
 use Rattle.decimal.specs.Read.{digitOf}
 use Rattle.scan.proofs.digit.Statement.{statement}
 use Rattle.scan.proofs.digit.Tie as tie

@@ -1,6 +1,7 @@
 -- `contract::scan::expect` meets its contract.
 use borrow.Author.Needs.{needs}
-use Rattle.choice.specs.Choice.{choose, tests}
+use Rattle.choice.specs.Choice.{choose}
+use Rattle.choice.proofs.Chain.{tests}
 use Rattle.decimal.specs.Scan.{byteAt}
 use Rattle.scan.proofs.expect.Statement.{statement}
 use Rattle.scan.proofs.expect.Tie as tie

@@ -3,7 +3,7 @@ use borrow.Author.Needs.{needs}
 use mathlib.Core.Path.{refl}
 use Prim.Native.Nat.{_-_, _≤_}
 use native.Mathlib.Omega.{arith}
-use Rattle.integer.specs.Table.{Filled, filled-start, filled-next, filled-all}
+use Rattle.integer.proofs.Table.{Filled, filled-start, filled-next, filled-all}
 use Rattle.book.specs.State.{seriesAt}
 use Rattle.session_margin.proofs.coefficients.Statement.{statement}
 use Rattle.session_margin.proofs.coefficients.Tie as tie

@@ -8,9 +8,10 @@ use native.Mathlib.Omega.{arith}
 use lib.IntN.{ℤ, pos, _+ℤ_, +ℤ-idr}
 use lib.ListN.{length, getD, getD-replicate}
 use Rattle.choice.specs.Choice.{choose}
-use Rattle.integer.specs.Bounds.{Bounded, bounded-at, within-le}
-use Rattle.integer.specs.Sum.{at}
-use Rattle.integer.specs.Table.{table, length-table, getD-table, table-ext, Filled, filled-ext, filled-all}
+use Rattle.integer.specs.Bounds.{Bounded}
+use Rattle.integer.proofs.Bounds.{bounded-at, within-le}
+use Rattle.integer.specs.Table.{at, table}
+use Rattle.integer.proofs.Table.{length-table, getD-table, table-ext, Filled, filled-ext, filled-all}
 use Rattle.series.specs.Series.{expired, positionOf}
 use Rattle.terms.specs.Bounds.{accounts}
 use Rattle.book.specs.Sessions.{revaluedIn}

@@ -5,9 +5,9 @@ use Prim.Native.Nat.{ℕ}
 use native.Mathlib.Omega.{arith}
 use lib.IntN.{ℤ, pos}
 use lib.ListN.{getD}
-use Rattle.integer.specs.Bounds.{bounded-table, within-le}
-use Rattle.integer.specs.Sum.{at}
-use Rattle.integer.specs.Table.{table, table-ext, getD-table}
+use Rattle.integer.proofs.Bounds.{bounded-table, within-le}
+use Rattle.integer.specs.Table.{at, table}
+use Rattle.integer.proofs.Table.{table-ext, getD-table}
 use Rattle.margin.specs.Margin.{tradedValue}
 use Rattle.margin.proofs.Cost.{traded-small}
 use Rattle.series.specs.Series.{positionOf}

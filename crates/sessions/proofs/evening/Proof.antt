@@ -4,10 +4,10 @@ use mathlib.Core.Bool.{false}
 use Prim.Native.Nat.{_+_}
 use native.Mathlib.Omega.{arith}
 use lib.IntN.{ℤ, pos, _-ℤ_}
-use Rattle.choice.specs.Choice.{hit, past, tests}
-use Rattle.integer.specs.Bounds.{bounded-table, bounded-le, within-le}
-use Rattle.integer.specs.Sum.{at}
-use Rattle.integer.specs.Table.{table, table-ext, getD-table}
+use Rattle.choice.proofs.Chain.{hit, past, tests}
+use Rattle.integer.proofs.Bounds.{bounded-table, bounded-le, within-le}
+use Rattle.integer.specs.Table.{at, table}
+use Rattle.integer.proofs.Table.{table-ext, getD-table}
 use Rattle.terms.specs.Bounds.{accounts}
 use Rattle.book.specs.Sessions.{eveningMargin, eveningMoney, paidInto}
 use Rattle.book.specs.State.{noMoney}

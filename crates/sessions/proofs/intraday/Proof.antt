@@ -2,8 +2,8 @@
 use mathlib.Core.Path.{_≡_, _∙_}
 use mathlib.Core.Bool.{true}
 use native.Mathlib.Omega.{arith}
-use Rattle.choice.specs.Choice.{hit, past, tests}
-use Rattle.integer.specs.Bounds.{bounded-table, within-le}
+use Rattle.choice.proofs.Chain.{hit, past, tests}
+use Rattle.integer.proofs.Bounds.{bounded-table, within-le}
 use Rattle.integer.specs.Table.{table}
 use Rattle.terms.specs.Bounds.{accounts}
 use Rattle.book.specs.Sessions.{intradayMoney, paidInto}

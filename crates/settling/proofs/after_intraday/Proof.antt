@@ -2,7 +2,7 @@
 use mathlib.Core.Path.{refl, ap}
 use mathlib.Core.Bool.{not}
 use borrow.Author.Tests.{lt-ltb, le-ltb}
-use Rattle.choice.specs.Choice.{hit, past}
+use Rattle.choice.proofs.Chain.{hit, past}
 use borrow.Author.Needs.{needs}
 use Rattle.settling.proofs.after_intraday.Statement.{statement}
 use Rattle.settling.proofs.after_intraday.Tie as tie

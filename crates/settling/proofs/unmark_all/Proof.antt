@@ -4,7 +4,7 @@ use mathlib.Core.Path.{_∙_}
 use Prim.Native.Nat.{ℕ, _-_, _≤_}
 use native.Mathlib.Omega.{arith}
 use Rattle.choice.specs.Choice.{choose}
-use Rattle.integer.specs.Table.{Updated, updated-start, updated-next, updated-rest}
+use Rattle.integer.proofs.Table.{Updated, updated-start, updated-next, updated-rest}
 use Rattle.series.specs.Changes.{unmarked}
 use Rattle.series.specs.declared.state.Series.{Series}
 use Rattle.book.specs.State.{noSeries, seriesAt, live}

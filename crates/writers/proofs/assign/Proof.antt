@@ -4,8 +4,8 @@ use mathlib.Core.Path.{refl, sym, ap, _∙_}
 use Prim.Native.Nat.{ℕ}
 use native.Mathlib.Omega.{arith}
 use lib.ListN.{getD-replicate}
-use Rattle.integer.specs.Sum.{at}
-use Rattle.integer.specs.Table.{is-table}
+use Rattle.integer.specs.Table.{at}
+use Rattle.integer.proofs.Table.{is-table}
 use Rattle.exercise.specs.Places.{places}
 use Rattle.exercise.specs.Exercise.{short}
 use Rattle.exercise.specs.Assignment.{assigned}

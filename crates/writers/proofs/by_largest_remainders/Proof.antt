@@ -7,8 +7,9 @@ use mathlib.Core.List.{List}
 use Prim.Native.Nat.{ℕ, _≤_, _<_, _-_, _+_}
 use native.Mathlib.Omega.{arith}
 use lib.Dec.{ltb}
-use Rattle.integer.specs.NatSum.{sumℕ, sumℕ-term}
-use Rattle.integer.specs.Count.{bit, count, count-most}
+use Rattle.integer.specs.Sum.{sumℕ, bit, count}
+use Rattle.integer.proofs.NatSum.{sumℕ-term}
+use Rattle.integer.proofs.Count.{count-most}
 use Rattle.integer.specs.Table.{table}
 use Rattle.exercise.specs.declared.types.Shares.{Shares}
 use Rattle.exercise.specs.Places.{places, amount}

@@ -3,11 +3,12 @@ use mathlib.Core.Path.{_≡_, _∙_}
 use native.Mathlib.Omega.{arith}
 use lib.IntN.{pos, _-ℤ_}
 use mir.Syntax.{w32, w64}
-use Rattle.integer.specs.Ring.{part⁻, parts-}
-use Rattle.integer.specs.Order.{lt-yes, lt-no}
-use Rattle.integer.specs.Machine.{Reads, any, lit, less, local, minus, fits, unsigned-gives}
+use Rattle.integer.specs.Parts.{part⁻}
+use Rattle.integer.proofs.Ring.{parts-}
+use Rattle.integer.proofs.Order.{lt-yes, lt-no}
+use Rattle.integer.proofs.Machine.{Reads, any, lit, less, local, minus, fits, unsigned-gives}
 use Rattle.exercise.specs.Exercise.{held}
-use Rattle.exercise.proofs.Casts.{cast-asks}
+use Rattle.integer.proofs.Casts.{cast-asks}
 use Rattle.exercise.proofs.Sides.{one-side}
 use Rattle.writers.proofs.short.Statement.{statement}
 use Rattle.writers.proofs.short.Tie as tie

@@ -6,8 +6,8 @@ use native.Mathlib.Omega.{arith}
 use mir.Syntax.{w32}
 use mir.Val.{SFits}
 use mir.Facts.{toZ-ofZ}
-use Rattle.integer.specs.Sum.{at}
-use Rattle.integer.specs.Table.{Filled, filled-start, filled-next, filled-all}
+use Rattle.integer.specs.Table.{at}
+use Rattle.integer.proofs.Table.{Filled, filled-start, filled-next, filled-all}
 use Rattle.exercise.specs.Places.{places}
 use Rattle.exercise.specs.Exercise.{short}
 use Rattle.writers.proofs.short_by_place.Statement.{statement}

@@ -5,7 +5,7 @@ use native.Mathlib.Omega.{arith}
 use mathlib.Core.Path.{ap, _∙_}
 use lib.IntN.{pos}
 use mir.Syntax.{w64}
-use Rattle.integer.specs.Machine.{nat}
+use Rattle.integer.proofs.Machine.{nat}
 use Rattle.value.proofs.Bounds.{option-value-bound}
 use borrow.Author.Needs.{needs}
 use Rattle.amounts.proofs.blotter.amount.Statement.{statement}

@@ -6,10 +6,11 @@ use native.Mathlib.Omega.{arith}
 use lib.IntN.{pos}
 use lib.ListN.{getD, getD-replicate}
 use mir.Syntax.{w64}
-use Rattle.integer.specs.Bounds.{Bounded, within-pos, bounded-at}
-use Rattle.integer.specs.Machine.{Reads, same, local, fits, more, fewer, moved-is}
-use Rattle.integer.specs.Sum.{at}
-use Rattle.integer.specs.Table.{Filled, filled-ext, filled-all}
+use Rattle.integer.specs.Bounds.{Bounded}
+use Rattle.integer.proofs.Bounds.{within-pos, bounded-at}
+use Rattle.integer.proofs.Machine.{Reads, same, local, fits, more, fewer, moved-is}
+use Rattle.integer.specs.Table.{at}
+use Rattle.integer.proofs.Table.{Filled, filled-ext, filled-all}
 use Rattle.margin.specs.Margin.{tradeOf, tradedValue, TradeWithin}
 use Rattle.margin.specs.declared.trade.Trade.{Trade}
 use Rattle.margin.proofs.Cost.{due, due-small, paid-over, traded-none, traded-next, traded-small}

@@ -1,5 +1,6 @@
 -- `contract::future::capital` meets its contract.
-use Rattle.choice.specs.Choice.{choose, tests}
+use Rattle.choice.specs.Choice.{choose}
+use Rattle.choice.proofs.Chain.{tests}
 use Rattle.contract.specs.Future.{capitalOf}
 use Rattle.code_fields.proofs.future.capital.Statement.{statement}
 use Rattle.code_fields.proofs.future.capital.Tie as tie

@@ -1,5 +1,6 @@
 -- `contract::future::name_end` meets its contract.
-use Rattle.choice.specs.Choice.{choose, tests}
+use Rattle.choice.specs.Choice.{choose}
+use Rattle.choice.proofs.Chain.{tests}
 use Rattle.contract.specs.Future.{nameEnd}
 use Rattle.code_fields.proofs.future.name_end.Statement.{statement}
 use Rattle.code_fields.proofs.future.name_end.Tie as tie

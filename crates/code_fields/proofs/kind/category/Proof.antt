@@ -1,7 +1,8 @@
 -- `contract::kind::category` meets its contract.
 use borrow.Author.Needs.{needs}
 use Rattle.contract.proofs.KindField.{category-is, category-past}
-use Rattle.choice.specs.Choice.{choose, tests}
+use Rattle.choice.specs.Choice.{choose}
+use Rattle.choice.proofs.Chain.{tests}
 use Rattle.contract.specs.Kind.{categoryAt, categoryByte}
 use Rattle.code_fields.proofs.kind.category.Statement.{statement}
 use Rattle.code_fields.proofs.kind.category.Tie as tie

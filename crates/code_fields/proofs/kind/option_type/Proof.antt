@@ -1,7 +1,8 @@
 -- `contract::kind::option_type` meets its contract.
 use borrow.Author.Needs.{needs}
 use Rattle.contract.proofs.KindField.{type-is, type-past}
-use Rattle.choice.specs.Choice.{choose, tests}
+use Rattle.choice.specs.Choice.{choose}
+use Rattle.choice.proofs.Chain.{tests}
 use Rattle.contract.specs.Kind.{typeAt, typeByte}
 use Rattle.code_fields.proofs.kind.option_type.Statement.{statement}
 use Rattle.code_fields.proofs.kind.option_type.Tie as tie

@@ -2,7 +2,8 @@
 use borrow.Author.Needs.{needs}
 use Rattle.contract.specs.Strike.{fractionAt}
 use Rattle.decimal.proofs.Reading.{digit-room}
-use Rattle.choice.specs.Choice.{choose, tests}
+use Rattle.choice.specs.Choice.{choose}
+use Rattle.choice.proofs.Chain.{tests}
 use Rattle.code_fields.proofs.strike.fraction.Statement.{statement}
 use Rattle.code_fields.proofs.strike.fraction.Tie as tie
 

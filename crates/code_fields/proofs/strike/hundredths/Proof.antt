@@ -1,6 +1,7 @@
 -- `contract::strike::hundredths` meets its contract.
 use borrow.Author.Needs.{needs}
-use Rattle.choice.specs.Choice.{choose, tests}
+use Rattle.choice.specs.Choice.{choose}
+use Rattle.choice.proofs.Chain.{tests}
 use Rattle.contract.proofs.Steps.{fields}
 use Rattle.contract.specs.Strike.{hundredthsAt}
 use Rattle.code_fields.proofs.strike.hundredths.Statement.{statement}

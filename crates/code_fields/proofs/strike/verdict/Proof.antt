@@ -1,5 +1,6 @@
 -- `contract::strike::verdict` meets its contract.
-use Rattle.choice.specs.Choice.{choose, tests}
+use Rattle.choice.specs.Choice.{choose}
+use Rattle.choice.proofs.Chain.{tests}
 use Rattle.contract.specs.Strike.{strikeVerdict}
 use Rattle.code_fields.proofs.strike.verdict.Statement.{statement}
 use Rattle.code_fields.proofs.strike.verdict.Tie as tie

@@ -3,7 +3,7 @@ use mathlib.Core.Path.{sym, _∙_}
 use Prim.Native.Nat.{_+_}
 use native.Mathlib.Omega.{arith}
 use lib.ListN.{set}
-use Rattle.choice.specs.Choice.{hit, past, tests}
+use Rattle.choice.proofs.Chain.{hit, past, tests}
 use Rattle.series.proofs.Allowed.{ListAllowed, list-allowed}
 use Rattle.book.specs.State.{noMoney}
 use Rattle.book.specs.declared.state.Answer.the-variants.{Listed}

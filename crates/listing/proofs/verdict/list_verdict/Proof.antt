@@ -1,4 +1,4 @@
-use Rattle.choice.specs.Choice.{hit, past, tests}
+use Rattle.choice.proofs.Chain.{hit, past, tests}
 use borrow.Author.Needs.{needs}
 use Rattle.listing.proofs.verdict.list_verdict.Statement.{statement}
 use Rattle.listing.proofs.verdict.list_verdict.Tie as tie

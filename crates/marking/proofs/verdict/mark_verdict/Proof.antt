@@ -1,5 +1,5 @@
 -- `series::mark_verdict` meets its contract: the tests are those of the rule, in its order.
-use Rattle.choice.specs.Choice.{hit, past, tests}
+use Rattle.choice.proofs.Chain.{hit, past, tests}
 use borrow.Author.Needs.{needs}
 use Rattle.marking.proofs.verdict.mark_verdict.Statement.{statement}
 use Rattle.marking.proofs.verdict.mark_verdict.Tie as tie

@@ -1,7 +1,7 @@
 -- `effect::exercise` meets its contract: the effect by the verdict of the series.
 use mathlib.Core.Path.{refl, sym, _∙_}
 use native.Mathlib.Omega.{arith}
-use Rattle.integer.specs.Absolute.{abs-parts}
+use Rattle.integer.proofs.Absolute.{abs-parts}
 use Rattle.series.specs.Series.{positionIn}
 use Rattle.series.specs.declared.state.Series.{Series}
 use Rattle.series.proofs.Allowed.{RequestAllowed, exercise-allowed}

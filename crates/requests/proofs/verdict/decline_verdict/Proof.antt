@@ -1,4 +1,4 @@
-use Rattle.choice.specs.Choice.{hit, past, tests}
+use Rattle.choice.proofs.Chain.{hit, past, tests}
 use Rattle.requests.proofs.verdict.decline_verdict.Statement.{statement}
 use Rattle.requests.proofs.verdict.decline_verdict.Tie as tie
 

@@ -1,10 +1,10 @@
 -- `series::exercise_verdict` meets its contract: the tests are those of the rule, in its order.
 use mathlib.Core.Path.{_≡_}
 use mir.Syntax.{w32}
-use Rattle.choice.specs.Choice.{hit, past, tests}
+use Rattle.choice.proofs.Chain.{hit, past, tests}
 use Rattle.exercise.specs.Exercise.{held}
-use Rattle.integer.specs.Machine.{any}
-use Rattle.integer.specs.Sum.{at}
+use Rattle.integer.proofs.Machine.{any}
+use Rattle.integer.specs.Table.{at}
 use borrow.Author.Needs.{needs}
 use Rattle.requests.proofs.verdict.exercise_verdict.Statement.{statement}
 use Rattle.requests.proofs.verdict.exercise_verdict.Tie as tie

@@ -1,5 +1,5 @@
 -- `rows::kind::at_end` meets its contract.
-use Rattle.choice.specs.Choice.{hit, past, tests}
+use Rattle.choice.proofs.Chain.{hit, past, tests}
 use Rattle.rows.specs.Row.{atEnd}
 use Rattle.row_reader.proofs.kind.at_end.Statement.{statement}
 use Rattle.row_reader.proofs.kind.at_end.Tie as tie

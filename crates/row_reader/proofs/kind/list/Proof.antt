@@ -1,7 +1,7 @@
 -- `rows::kind::list` meets its contract.
 use native.Mathlib.Omega.{arith}
 use borrow.Author.Needs.{needs}
-use Rattle.choice.specs.Choice.{hit, past, tests}
+use Rattle.choice.proofs.Chain.{hit, past, tests}
 use Rattle.rows.proofs.Fields.{code-within}
 use Rattle.rows.proofs.Readers.{fields}
 use Rattle.rows.specs.Row.{listRow}

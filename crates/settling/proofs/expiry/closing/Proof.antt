@@ -1,6 +1,6 @@
 -- `series::closing` meets its contract.
 use mathlib.Core.Path.{refl}
-use Rattle.choice.specs.Choice.{hit, past}
+use Rattle.choice.proofs.Chain.{hit, past}
 use Rattle.settling.proofs.expiry.closing.Statement.{statement}
 use Rattle.settling.proofs.expiry.closing.Tie as tie
 

@@ -4,9 +4,9 @@ use Prim.Native.Nat.{_-_, _≤_}
 use native.Mathlib.Omega.{arith}
 use lib.IntN.{ℤ, pos, _+ℤ_}
 use mir.Syntax.{w32}
-use Rattle.integer.specs.Machine.{Reads, param, plus, local, fits}
-use Rattle.integer.specs.Sum.{at}
-use Rattle.integer.specs.Table.{Filled, filled-start, filled-next, filled-all}
+use Rattle.integer.proofs.Machine.{Reads, param, plus, local, fits}
+use Rattle.integer.specs.Table.{at}
+use Rattle.integer.proofs.Table.{Filled, filled-start, filled-next, filled-all}
 use Rattle.settling.proofs.expiry.grown.Statement.{statement}
 use Rattle.settling.proofs.expiry.grown.Tie as tie
 

@@ -5,7 +5,7 @@ use lib.ListN.{replicate}
 use mathlib.Core.Bool.{false}
 use Rattle.exercise.specs.Places.{places}
 use Rattle.exercise.specs.declared.types.Outcome.{Outcome}
-use Rattle.integer.specs.Bounds.{bounded-le}
+use Rattle.integer.proofs.Bounds.{bounded-le}
 use Rattle.settling.proofs.Settling.{closed, futures-grown, new-futures-bounded}
 use borrow.Author.Needs.{needs}
 use Rattle.settling.proofs.expiry.settle.Statement.{statement}

@@ -1,7 +1,7 @@
 -- `series::trade` meets its contract: the two stores are a move of the quantity.
 use lib.IntN.{pos}
 use mir.Syntax.{w32}
-use Rattle.integer.specs.Machine.{Reads, nat, fits, more, fewer, moved-is}
+use Rattle.integer.proofs.Machine.{Reads, nat, fits, more, fewer, moved-is}
 use borrow.Author.Needs.{needs}
 use Rattle.trading.proofs.change.trade.Statement.{statement}
 use Rattle.trading.proofs.change.trade.Tie as tie

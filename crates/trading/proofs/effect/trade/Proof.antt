@@ -1,7 +1,7 @@
 -- `effect::trade` meets its contract: the effect by the verdict of the series.
 use mathlib.Core.Path.{refl, sym, _∙_}
 use native.Mathlib.Omega.{arith}
-use Rattle.choice.specs.Choice.{hit, past, tests}
+use Rattle.choice.proofs.Chain.{hit, past, tests}
 use Rattle.series.specs.declared.state.Series.{Series}
 use Rattle.series.proofs.Allowed.{TradeAllowed, trade-allowed}
 use Rattle.book.proofs.Effects.{effect-refused, effect-allowed, seriesWith}

@@ -1,6 +1,6 @@
 -- `series::passes_limit` meets its contract, by the sign of the position.
 use mir.Syntax.{w64}
-use Rattle.integer.specs.Machine.{any}
+use Rattle.integer.proofs.Machine.{any}
 use Rattle.trading.proofs.Limits.{limit-short, limit-long}
 use borrow.Author.Needs.{needs}
 use Rattle.trading.proofs.verdict.passes_limit.Statement.{statement}

@@ -4,9 +4,9 @@ use Prim.Native.Nat.{_≤_}
 use native.Mathlib.Omega.{arith}
 use lib.IntN.{ℤ, pos, _+ℤ_, _-ℤ_}
 use mir.Syntax.{w32, w64}
-use Rattle.choice.specs.Choice.{hit, past, tests}
-use Rattle.integer.specs.Machine.{Reads, any, nat, plus, minus, local, fits}
-use Rattle.integer.specs.Sum.{at}
+use Rattle.choice.proofs.Chain.{hit, past, tests}
+use Rattle.integer.proofs.Machine.{Reads, any, nat, plus, minus, local, fits}
+use Rattle.integer.specs.Table.{at}
 use Rattle.series.specs.Verdicts.{passesLimit}
 use borrow.Author.Needs.{needs}
 use Rattle.trading.proofs.verdict.trade_verdict.Statement.{statement}

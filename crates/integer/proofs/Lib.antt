@@ -1,0 +1,10 @@
+pub mod Ring
+pub mod Order
+pub mod Absolute
+pub mod Table
+pub mod Sum
+pub mod Bounds
+pub mod Machine
+pub mod Casts
+pub mod NatSum
+pub mod Count
