@@ -1,11 +1,9 @@
 // Rows that are events on one series: they are carried out in the book where it stands.
 use buffers::flushed;
 use buffers::up_to;
-use rows::types::End;
-use rows::types::Row;
 use stream::types::Passed;
 use stream::types::Replay;
-use terms::bounds::SERIES;
+use stream::types::SeriesRow;
 ghost use Prim.Native.Nat.{_+_, _≤_};
 ghost use lib.ListN.{length, drop};
 ghost use Rattle.book.specs.Good.{Good};
@@ -24,17 +22,15 @@ pub fn series_rows(input: &[u8], start: usize, out: &mut [u8], replay: Replay) -
     let mut intact = replay.intact;
     let mut from = start;
     loop {
-        let End::At(end) = row_cut::row_end(input, from) else {
+        let SeriesRow::OnSeries {
+            series,
+            event,
+            next,
+        } = series_row::series_row(input, from)
+        else {
             return up_to(book, row, at, intact, from);
         };
-        let Row::Accepted(event) = row_reader::read_row(&input[from..end]) else {
-            return up_to(book, row, at, intact, from);
-        };
-        let i = effect::series_of(event);
-        if SERIES <= i {
-            return up_to(book, row, at, intact, from);
-        }
-        let mut s = book.series[i];
+        let mut s = book.series[series];
         let listing = s.listing;
         let effect = effect::effect(
             listing,
@@ -50,10 +46,10 @@ pub fn series_rows(input: &[u8], start: usize, out: &mut [u8], replay: Replay) -
         let mark = s.mark;
         let marked = apply::mark(mark, effect);
         s.mark = marked;
-        book.series[i] = s;
+        book.series[series] = s;
         let n = apply::next_record(book.trades);
-        let next = book.blotter[n];
-        let joined = apply::joined(next, effect);
+        let record = book.blotter[n];
+        let joined = apply::joined(record, effect);
         book.blotter[n] = joined;
         book.trades = apply::counted(book.trades, effect);
         let answer = apply::answer(effect);
@@ -62,6 +58,6 @@ pub fn series_rows(input: &[u8], start: usize, out: &mut [u8], replay: Replay) -
         let waiting = flushed(out, end_of_line, intact);
         at = waiting.at;
         intact = waiting.intact;
-        from = end + 2;
+        from = next;
     }
 }

@@ -1,4 +1,5 @@
 use book::state::Book;
+use book::state::Event;
 ghost use Rattle.rows.specs.Cut.{kept};
 
 // The book, the rows answered so far, the bytes of output that wait to be written, and whether all before them were.
@@ -19,6 +20,16 @@ pub struct Waiting {
 pub struct Passed {
     pub replay: Replay,
     pub from: usize,
+}
+
+// The next row of a buffer: an event on one series, and where the row after it starts; or another row, or none that ends.
+pub enum SeriesRow {
+    OnSeries {
+        series: usize,
+        event: Event,
+        next: usize,
+    },
+    Other,
 }
 
 // What a read gave: input up to a place of the buffer, its end, or an error.

@@ -1,0 +1,28 @@
+// The next row of a buffer, where it is an event on one series.
+use rows::types::End;
+use rows::types::Row;
+use stream::types::SeriesRow;
+use terms::bounds::SERIES;
+ghost use mathlib.Core.Path.{_≡_};
+ghost use Rattle.stream.specs.Rows.{seriesRowAt};
+
+// The row that starts at a place of a buffer and ends at the next CRLF.
+pub fn series_row(input: &[u8], from: usize) -> SeriesRow
+    ensures { λ r. ⌜ r ≡ seriesRowAt (now (input .entry)) from ⌝ }
+{
+    let End::At(end) = row_cut::row_end(input, from) else {
+        return SeriesRow::Other;
+    };
+    let Row::Accepted(event) = row_reader::read_row(&input[from..end]) else {
+        return SeriesRow::Other;
+    };
+    let series = effect::series_of(event);
+    if SERIES <= series {
+        return SeriesRow::Other;
+    }
+    SeriesRow::OnSeries {
+        series: series,
+        event: event,
+        next: end + 2,
+    }
+}
