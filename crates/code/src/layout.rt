@@ -35,7 +35,7 @@ pub fn fields(s: &[u8]) -> LayoutRead
     else {
         return LayoutRead::NoLayout;
     };
-    let StrikeRead::Strike(strike) = code_fields::strike::last(s, c) else {
+    let StrikeRead::Strike(strike) = strike::last(s, c) else {
         return LayoutRead::NoLayout;
     };
     LayoutRead::Laid {
@@ -69,5 +69,5 @@ pub fn put_code(out: &mut [u8], future: &[u8], terms: Terms) -> usize
     let category = terms.category;
     let b = put_head(out, future, date);
     let c = code_fields::kind::put_letters(out, b, option, category);
-    code_fields::strike::put_text(out, c, terms.strike)
+    strike::put_text(out, c, terms.strike)
 }

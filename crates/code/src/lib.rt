@@ -27,7 +27,7 @@ fn verdict(terms: Terms) -> Verdict
 {
     let date = terms.date;
     let dated = date::verdict(date);
-    let bounded = code_fields::strike::verdict(terms.strike);
+    let bounded = strike::verdict(terms.strike);
     in_order(dated, bounded)
 }
 

@@ -1,4 +1,3 @@
-// The fields of a contract code beside its date.
+// The fields of a contract code beside its date and its strike.
 pub mod future; // future.rt: the futures code
 pub mod kind; // kind.rt: the option's type and category
-pub mod strike; // strike.rt: the strike

@@ -1,59 +1,18 @@
 // Replays rows of events: standard input to standard output, in a loop that holds the book.
-use buffer_rows::whole_rows;
+mod pass; // pass.rt: the rows of a buffer
+
 use buffers::fill;
-use buffers::flushed;
-use buffers::keep;
-use row_step::answer_row;
+use pass::last_row;
+use pass::pass;
 use stream::types::Input;
 use stream::types::Replay;
 use stream::types::Run;
 use stream::types::Waiting;
 ghost use Prim.Native.Nat.{_≤_, _<_};
-ghost use mathlib.Core.Path.{_≡_};
-ghost use mathlib.Core.Bool.{false};
-ghost use lib.ListN.{length, take};
+ghost use lib.ListN.{length};
 ghost use Rattle.book.specs.Good.{Good};
-ghost use Rattle.rows.specs.Cut.{cut, lastRow, keptBytes, kept};
-ghost use Rattle.stream.specs.Output.{Answered, Turned, Replayed};
-
-// The rows that end in the buffer, whose input goes up to a place.
-fn pass(buf: &mut [u8], out: &mut [u8], replay: Replay, end: usize) -> Run
-    requires { ⌜ (Good (replay .book)) × (replay .at ≤ 28608) × (65536 ≤ length (now out)) × (end ≤ length (now buf)) ⌝ }
-    ensures { λ r. ⌜ (Good (r .replay .book)) × (r .replay .at ≤ 28608) × (r .have ≤ length (now (buf .entry))) × (r .have ≤ keptBytes) × Answered replay (now (out .entry)) (cut (take end (now (buf .entry))) .rows) (r .replay) (now (out .exit)) × (take (r .have) (now (buf .exit)) ≡ kept (cut (take end (now (buf .entry))) .rest)) × (r .going ≡ r .replay .intact) ⌝ }
-{
-    let passed = whole_rows(&buf[..end], out, replay);
-    let left = keep(buf, passed.from, end);
-    let next = passed.replay;
-    let intact = next.intact;
-    Run {
-        replay: next,
-        have: left,
-        going: intact,
-    }
-}
-
-// The end of the input: what it left without CRLF is a row.
-fn last_row(buf: &[u8], out: &mut [u8], replay: Replay, have: usize) -> Run
-    requires { ⌜ (Good (replay .book)) × (replay .at ≤ 28608) × (65536 ≤ length (now out)) × (have ≤ length (now buf)) ⌝ }
-    ensures { λ r. ⌜ (Good (r .replay .book)) × (r .replay .at ≤ 28608) × (r .have ≤ 0) × Answered replay (now (out .entry)) (lastRow (take have (now (buf .entry)))) (r .replay) (now (out .exit)) × (r .going ≡ false) ⌝ }
-{
-    if have == 0 {
-        return Run {
-            replay: replay,
-            have: 0,
-            going: false,
-        };
-    }
-    let mut next = answer_row(&buf[..have], out, replay);
-    let waiting = flushed(out, next.at, next.intact);
-    next.at = waiting.at;
-    next.intact = waiting.intact;
-    Run {
-        replay: next,
-        have: 0,
-        going: false,
-    }
-}
+ghost use Rattle.rows.specs.Cut.{keptBytes};
+ghost use Rattle.stream.specs.Output.{Turned, Replayed};
 
 // Reads once, and goes through what was read.
 fn turn(buf: &mut [u8], out: &mut [u8], run: Run) -> Run

@@ -21,7 +21,7 @@ pub fn read_row(s: &[u8]) -> Row
     }
     let letter = s[0];
     match letter {
-        b'L' => kind::list(s),
+        b'L' => list_row::list(s),
         b'T' => kind::trade(s),
         b'X' => kind::exercise(s),
         b'D' => kind::decline(s),

@@ -2,6 +2,7 @@
 use book::state::Book;
 use book::state::Event;
 use book::state::Found;
+use row_lines::is_session;
 use rows::types::Row;
 use stream::types::Replay;
 ghost use mathlib.Core.Path.{_≡_};
@@ -14,20 +15,6 @@ ghost use Rattle.decimal.specs.Put.{Put};
 ghost use Rattle.report.specs.Report.{isSession, reportOf};
 ghost use Rattle.rows.specs.Row.{rowOf};
 ghost use Rattle.stream.specs.Rows.{bookBy, linesBy};
-
-fn is_session(event: Event) -> bool
-    ensures { λ r. ⌜ r ≡ isSession event ⌝ }
-{
-    match event {
-        Event::List { .. } => false,
-        Event::Trade { .. } => false,
-        Event::Exercise { .. } => false,
-        Event::Decline { .. } => false,
-        Event::Mark { .. } => false,
-        Event::Intraday => true,
-        Event::Evening => true,
-    }
-}
 
 // A session: its step, and all its lines.
 fn session_row(
