@@ -1,6 +1,4 @@
 // Money of all accounts, in kopecks.
-pub mod blotter;
-
 use exercise::types::PLACES;
 use terms::bounds::ACCOUNTS;
 ghost use mathlib.Core.Path.{_≡_};

@@ -2,11 +2,13 @@
 pub mod number; // number.rt: rows that are refused before they reach the book
 
 use book::state::Answer;
+use book::state::Event;
 use book::state::Found;
 use series::refusal::Refusal;
 ghost use mathlib.Core.Path.{_≡_};
 ghost use Rattle.series.specs.Refusals.{number};
 ghost use Rattle.book.specs.Answers as rule;
+ghost use Rattle.report.specs.Report.{isSession};
 
 // The number of a refusal.
 fn refusal_number(why: Refusal) -> u64
@@ -61,5 +63,20 @@ pub fn named(answer: Answer) -> Found
         Answer::Done => Found::Nothing,
         Answer::Listed(i) => Found::At(i),
         Answer::Refused(why) => named_by(why),
+    }
+}
+
+// Whether an event is a session: others have their answer's line alone.
+pub fn is_session(event: Event) -> bool
+    ensures { λ r. ⌜ r ≡ isSession event ⌝ }
+{
+    match event {
+        Event::List { .. } => false,
+        Event::Trade { .. } => false,
+        Event::Exercise { .. } => false,
+        Event::Decline { .. } => false,
+        Event::Mark { .. } => false,
+        Event::Intraday => true,
+        Event::Evening => true,
     }
 }

@@ -1,12 +1,10 @@
 // The lines of a row that is an event. Each function puts its text at a place of the buffer and returns the place after it.
 use book::state::Answer;
-use book::state::Event;
 use book::state::Step;
 use exercise::types::PLACES;
 use series::state::Series;
 use terms::bounds::ACCOUNTS;
 use terms::bounds::SERIES;
-ghost use mathlib.Core.Path.{_≡_};
 ghost use Prim.Native.Nat.{_+_, _≤_};
 ghost use lib.ListN.{length};
 ghost use Rattle.decimal.specs.Put.{Put};
@@ -99,19 +97,4 @@ pub fn report(out: &mut [u8], at: usize, row: u64, before: [Series; SERIES], ste
     let first = answered(out, at, row, answer);
     let next = money(out, first, row, paid);
     futures(out, next, row, before, after)
-}
-
-// Whether an event is a session: only a session has M and F lines.
-pub fn is_session(event: Event) -> bool
-    ensures { λ r. ⌜ r ≡ rule.isSession event ⌝ }
-{
-    match event {
-        Event::List { .. } => false,
-        Event::Trade { .. } => false,
-        Event::Exercise { .. } => false,
-        Event::Decline { .. } => false,
-        Event::Mark { .. } => false,
-        Event::Intraday => true,
-        Event::Evening => true,
-    }
 }

@@ -1,8 +1,8 @@
 // One row: its event is carried out or refused, and its lines are put behind what waits.
+use answers::is_session;
 use book::state::Book;
 use book::state::Event;
 use book::state::Found;
-use row_lines::is_session;
 use rows::types::Row;
 use stream::types::Replay;
 ghost use mathlib.Core.Path.{_≡_};

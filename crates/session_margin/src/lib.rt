@@ -1,7 +1,7 @@
 // The variation margin of all accounts in a session.
-use amounts::blotter::traded;
 use amounts::less;
 use amounts::revalue;
+use blotter::traded;
 use book::state::Book;
 use series::state::Series;
 use terms::bounds::ACCOUNTS;

@@ -14,8 +14,8 @@ use Rattle.integer.proofs.Table.{Filled, filled-ext, filled-all}
 use Rattle.margin.specs.Margin.{tradeOf, tradedValue, TradeWithin}
 use Rattle.margin.specs.declared.trade.Trade.{Trade}
 use Rattle.margin.proofs.Cost.{due, due-small, paid-over, traded-none, traded-next, traded-small}
-use Rattle.amounts.proofs.blotter.traded.Statement.{statement}
-use Rattle.amounts.proofs.blotter.traded.Tie as tie
+use Rattle.blotter.proofs.traded.Statement.{statement}
+use Rattle.blotter.proofs.traded.Tie as tie
 
 abbrev Inv-loop : tie.InvT-loop
 Inv-loop trades blotter coefficients out₀ k₀ out k = (k ≤ trades) × Filled 64 64 out (pos 0) (tradedValue blotter k coefficients)

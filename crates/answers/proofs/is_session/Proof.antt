@@ -2,8 +2,8 @@
 use mathlib.Core.Path.{refl}
 use Rattle.report.specs.Report.{isSession}
 use borrow.Author.Needs.{needs}
-use Rattle.row_lines.proofs.is_session.Statement.{statement}
-use Rattle.row_lines.proofs.is_session.Tie as tie
+use Rattle.answers.proofs.is_session.Statement.{statement}
+use Rattle.answers.proofs.is_session.Tie as tie
 
 enum-told : tie.Need-enum-told
 enum-told c = search needs

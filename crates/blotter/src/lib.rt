@@ -1,3 +1,4 @@
+// What the day's trades cost each account.
 use margin::trade::Trade;
 use terms::bounds::ACCOUNTS;
 use terms::bounds::BLOTTER;

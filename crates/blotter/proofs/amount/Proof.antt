@@ -8,8 +8,8 @@ use mir.Syntax.{w64}
 use Rattle.integer.proofs.Machine.{nat}
 use Rattle.value.proofs.Bounds.{option-value-bound}
 use borrow.Author.Needs.{needs}
-use Rattle.amounts.proofs.blotter.amount.Statement.{statement}
-use Rattle.amounts.proofs.blotter.amount.Tie as tie
+use Rattle.blotter.proofs.amount.Statement.{statement}
+use Rattle.blotter.proofs.amount.Tie as tie
 
 worth-small : (c : tie.After-struct-known) → c .before .value .result ≤ 2000000000
 worth-small c = rw (c .before .value .ensures) (option-value-bound _ _ (c .before .before .pre .1) (c .before .before .pre .0 .price))
