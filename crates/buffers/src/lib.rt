@@ -1,4 +1,5 @@
 // The buffers of a replay: input that is read and kept, output that waits, and the replay up to a place of its input.
+use book::state::Answer;
 use book::state::Book;
 use stream::types::Input;
 use stream::types::Passed;
@@ -7,7 +8,9 @@ use stream::types::Waiting;
 ghost use Prim.Native.Nat.{_≤_, _<_, _+_};
 ghost use mathlib.Core.Path.{_≡_};
 ghost use mathlib.Core.Bool.{false};
+ghost use mathlib.Core.List.{_++_};
 ghost use lib.ListN.{length, take, drop};
+ghost use Rattle.report.specs.Report.{answerOf};
 ghost use Rattle.rows.specs.Cut.{keptBytes, kept};
 ghost use Rattle.stream.specs.Input.{Within};
 ghost use Rattle.stream.specs.Output.{waitsOn};
@@ -74,4 +77,13 @@ pub fn flushed(out: &mut [u8], end: usize, intact: bool) -> Waiting
         at: 0,
         intact: written,
     }
+}
+
+// The line of an answer behind what waits.
+pub fn put_answer(out: &mut [u8], at: usize, row: u64, answer: Answer, intact: bool) -> Waiting
+    requires { ⌜ (at ≤ 28608) × (65536 ≤ length (now out)) ⌝ }
+    ensures { λ r. ⌜ (r .at ≤ 28608) × (take (r .at) (now (out .exit)) ≡ waitsOn (take at (now (out .entry)) ++ answerOf row answer)) × (intact ≡ false → r .intact ≡ false) ⌝ }
+{
+    let end = row_lines::answered(out, at, row, answer);
+    flushed(out, end, intact)
 }

@@ -1,5 +1,5 @@
 // Rows that are events on one series: they are carried out in the book where it stands.
-use buffers::flushed;
+use buffers::put_answer;
 use buffers::up_to;
 use stream::types::Passed;
 use stream::types::Replay;
@@ -54,8 +54,7 @@ pub fn series_rows(input: &[u8], start: usize, out: &mut [u8], replay: Replay) -
         book.trades = apply::counted(book.trades, effect);
         let answer = apply::answer(effect);
         row = std::num::wrapping_add_u64(row, 1);
-        let end_of_line = row_lines::answered(out, at, row, answer);
-        let waiting = flushed(out, end_of_line, intact);
+        let waiting = put_answer(out, at, row, answer, intact);
         at = waiting.at;
         intact = waiting.intact;
         from = next;

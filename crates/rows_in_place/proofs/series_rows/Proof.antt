@@ -20,7 +20,7 @@ use Rattle.stream.specs.Output.{AnsweredUpTo}
 use Rattle.stream.specs.declared.types.Passed.{Passed}
 use Rattle.stream.specs.declared.types.Replay.{Replay}
 use Rattle.stream.proofs.Books.{book-accepted, series-line}
-use Rattle.stream.proofs.Lines.{up-to-none, row-answered, up-to-next}
+use Rattle.stream.proofs.Lines.{up-to-none, lines-answered, up-to-next}
 use Rattle.stream.proofs.NextRow.{Found, found}
 use Rattle.rows_in_place.proofs.series_rows.Statement.{statement}
 use Rattle.rows_in_place.proofs.series_rows.Tie as tie
@@ -79,8 +79,8 @@ record-of c = next-record-within _ (c .next-record .ensures)
 abbrev effected : tie.After-answer Inv-loop μ-loop → tie.After-effect Inv-loop μ-loop
 effected c = c .before .before .before .before .before .before .before .before .before .before .before .before .before
 
-abbrev answer-of : tie.After-slice-known3 Inv-loop μ-loop → tie.After-answer Inv-loop μ-loop
-answer-of c = c .before .before .before .before .before .before .before .before .before
+abbrev answer-of : tie.After-slice-known2 Inv-loop μ-loop → tie.After-answer Inv-loop μ-loop
+answer-of c = c .before .before .before .before .before
 
 loop-holds : tie.Need-loop-holds Inv-loop μ-loop
 loop-holds c =
@@ -131,8 +131,8 @@ set-refusal-requires c κs = fits (c .before .before .before .before .before)
 mark-requires : tie.Need-mark-requires Inv-loop μ-loop
 mark-requires c κs = search needs
 
-mul-t26 : tie.Need-mul-t26 Inv-loop μ-loop
-mul-t26 c = omega (arith, row (row-of (c .before .before .before .before .before .before .before .before)) .room)
+mul-t25 : tie.Need-mul-t25 Inv-loop μ-loop
+mul-t25 c = omega (arith, row (row-of (c .before .before .before .before .before .before .before .before)) .room)
 
 element-set-from-book : tie.Need-element-set-from-book Inv-loop μ-loop
 element-set-from-book c = row (row-of (c .before .before .before .before .before .before .before .before)) .room
@@ -164,16 +164,10 @@ answer-requires c κs = search needs
 wrapping-add-u64-requires : tie.Need-wrapping-add-u64-requires Inv-loop μ-loop
 wrapping-add-u64-requires c κs = search needs
 
-answered-requires : tie.Need-answered-requires Inv-loop μ-loop
-answered-requires c κs =
+put-answer-requires : tie.Need-put-answer-requires Inv-loop μ-loop
+put-answer-requires c κs =
     let l = top (row-of (effected (c .before .before))) in
-    omega (arith, l .loop .inv .1, l .loop .inv .4, l .before .before .before .before .pre .2)
-
-flushed-requires : tie.Need-flushed-requires Inv-loop μ-loop
-flushed-requires c κs =
-    let a = c .before .before .before in
-    let l = top (row-of (effected (a .before .before .before))) in
-    omega (arith, a .answered .ensures .1, a .answered .kept .0, l .loop .inv .1, l .loop .inv .4, l .before .before .before .before .pre .2)
+    (l .loop .inv .1, omega (arith, l .loop .inv .4, l .before .before .before .before .pre .2))
 
 loop-less : tie.Need-loop-less Inv-loop μ-loop
 loop-less c =
@@ -195,19 +189,17 @@ loop-again c =
     (a .before .before .before .before .before .mark2 .ensures)
     (a .before .before .joined .ensures)
     (a .before .counted .ensures) in
-    let n = c .before .before .before .before .before .before .before .before .wrapping-add-u64 in
-    let p = c .before .before .before .before .before .before .answered in
-    let w = c .before .before .flushed in (
+    let n = c .before .before .before .before .wrapping-add-u64 in
+    let w = c .before .before .put-answer in (
       stays-good (l .book) (event o) _ (l .inv .0) s,
       w .ensures .0,
       omega (arith, r .later, l .inv .2),
       r .within,
-      omega (arith, p .kept .0, w .kept .0, l .inv .4),
+      omega (arith, w .kept .0, l .inv .4),
       up-to-next (rw (r .first) at (l .inv .5))
-          (row-answered {next = p .result} (ap (λ (x : Step). x .book) s ∙ book-accepted (l .book) (r .says)) (n .ensures)
-          (rw (← series-line (n .result) (l .book) (l .inv .0) (event o) (rw (← r .series) (r .room)) (ap (λ (x : Step). x .answer) s) (r .says)) (p .ensures .0))
-          (omega (arith, p .ensures .1, l .inv .1, l .inv .4, top o .before .before .before .before .pre .2))
-          (w .ensures .1) (w .ensures .2)),
+          (lines-answered (ap (λ (x : Step). x .book) s ∙ book-accepted (l .book) (r .says)) (n .ensures)
+          (rw (← series-line (n .result) (l .book) (l .inv .0) (event o) (rw (← r .series) (r .room)) (ap (λ (x : Step). x .answer) s) (r .says)) (w .ensures .1))
+          (w .ensures .2)),
     )
 
 pub series-rows-spec : {M : Type 1} → statement M
@@ -230,7 +222,7 @@ series-rows-spec =
     set-request-requires
     set-refusal-requires
     mark-requires
-    mul-t26
+    mul-t25
     element-set-from-book
     next-record-requires
     mul-record
@@ -241,7 +233,6 @@ series-rows-spec =
     counted-requires
     answer-requires
     wrapping-add-u64-requires
-    answered-requires
-    flushed-requires
+    put-answer-requires
     loop-less
     loop-again)
