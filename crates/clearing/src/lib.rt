@@ -48,7 +48,7 @@ pub fn empty() -> Book
     }
 }
 
-// What the book answers to an event. An event on one series is made in place; `event::whole` has the others.
+// What the book answers to an event. An event on one series is made in place; `whole` has the others.
 pub fn step(mut book: Book, event: Event) -> Step
     requires { ⌜ Good book ⌝ }
     ensures { λ r. ⌜ (r ≡ stepOf book event) × Good (r .book) ⌝ }

@@ -1,3 +1,4 @@
+// The series that a listing begins.
 use exercise::types::PLACES;
 use marking::change::no_mark;
 use series::state::Listing;

@@ -19,6 +19,7 @@ ghost use Rattle.book.specs.Good.{Good};
 ghost use Rattle.book.specs.Step as rule;
 ghost use Rattle.book.specs.declared.state.Event as happening;
 
+// A listing takes the next series number.
 pub fn list(
     mut book: Book,
     option: OptionType,

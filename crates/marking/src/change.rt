@@ -1,3 +1,4 @@
+// The mark of a series: made, or dropped.
 use series::state::Mark;
 use series::state::Series;
 ghost use mathlib.Core.Path.{_≡_};

@@ -9,6 +9,7 @@ ghost use Rattle.series.specs.Verdicts.{markVerdict};
 ghost use Rattle.book.specs.Effects as rule;
 ghost use Rattle.book.specs.declared.state.Effect.the-variants.{Marked};
 
+// What a mark does, or why it is refused.
 pub fn mark(listing: Listing, day: u32, option: u64, future: u64, tick_value: u64) -> Effect
     ensures { λ r. ⌜ r ≡ rule.byVerdict (Marked (markOf (listing .tick) option future «tick_value»)) (markVerdict listing day option future «tick_value») ⌝ }
 {

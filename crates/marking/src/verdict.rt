@@ -1,3 +1,4 @@
+// The conditions, tested in the order of the refusals' numbers.
 use series::refusal::Refusal;
 use series::refusal::Verdict;
 use series::state::Listing;

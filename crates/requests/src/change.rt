@@ -1,3 +1,4 @@
+// The requests and refusals of a series, in place.
 use exercise::types::PLACES;
 ghost use mathlib.Core.Path.{_≡_};
 ghost use Prim.Native.Nat.{_<_};

@@ -11,6 +11,7 @@ ghost use Rattle.series.specs.Verdicts.{exerciseVerdict, declineVerdict};
 ghost use Rattle.book.specs.Effects as rule;
 ghost use Rattle.book.specs.declared.state.Effect.the-variants.{Requested, Declined};
 
+// What a request does, or why it is refused.
 pub fn exercise(
     listing: Listing,
     positions: &[i32; PLACES],
@@ -30,6 +31,7 @@ pub fn exercise(
     }
 }
 
+// What a refusal of exercise does, or why it is not taken.
 pub fn decline(listing: Listing, day: u32, account: u8) -> Effect
     ensures { λ r. ⌜ r ≡ rule.byVerdict (Declined account) (declineVerdict listing day account) ⌝ }
 {

@@ -1,3 +1,4 @@
+// The conditions, tested in the order of the refusals' numbers.
 use exercise::types::PLACES;
 use holders::held;
 use series::refusal::Refusal;

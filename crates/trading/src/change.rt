@@ -1,3 +1,4 @@
+// The positions of a series, in place.
 use exercise::types::PLACES;
 ghost use mathlib.Core.Path.{_≡_};
 ghost use mathlib.Core.Logic.{_≢_};

@@ -14,6 +14,7 @@ ghost use Rattle.book.specs.Effects as rule;
 ghost use Rattle.book.specs.Verdicts.{blotterVerdict};
 ghost use Rattle.book.specs.declared.state.Effect.the-variants.{Traded};
 
+// What a trade does, or why it is refused: by the conditions of its series, then by the blotter.
 pub fn trade(
     listing: Listing,
     positions: &[i32; PLACES],

@@ -1,3 +1,4 @@
+// Sums over the places of a series.
 use exercise::types::PLACES;
 ghost use mathlib.Core.Path.{_≡_};
 ghost use Prim.Native.Nat.{_<_, _^_};

@@ -1,4 +1,4 @@
--- `replay::row::is_session` meets its contract.
+-- `answers::is_session` meets its contract.
 use mathlib.Core.Path.{refl}
 use Rattle.report.specs.Report.{isSession}
 use borrow.Author.Needs.{needs}

@@ -1,4 +1,4 @@
--- `margin::amount` meets its contract: a quantity of at most 1,000 times a value of at most 2,000,000,000 fits.
+-- `blotter::amount` meets its contract: a quantity of at most 1,000 times a value of at most 2,000,000,000 fits.
 use Prim.Native.Nat.{ℕ, _*_, _≤_}
 use native.Mathlib.Nat.{mul-le-mul}
 use native.Mathlib.Omega.{arith}

@@ -1,4 +1,4 @@
--- `margin::traded` meets its contract: after k trades each place holds what those k cost its account.
+-- `blotter::traded` meets its contract: after k trades each place holds what those k cost its account.
 use borrow.Author.Needs.{needs}
 use mathlib.Core.Path.{_≡_, sym, _∙_}
 use Prim.Native.Nat.{ℕ, _-_, _≤_}

@@ -1,4 +1,4 @@
--- `replay::fill` meets its contract.
+-- `buffers::fill` meets its contract.
 use Rattle.stream.specs.Input.{Within}
 use borrow.Author.Needs.{needs}
 use borrow.Rule.Slice.PartMut.{take-put}

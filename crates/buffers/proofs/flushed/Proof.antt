@@ -1,4 +1,4 @@
--- `replay::row::flushed` meets its contract: all waits on, or nothing does.
+-- `buffers::flushed` meets its contract: all waits on, or nothing does.
 use mathlib.Core.Path.{_≡_, refl, sym}
 use mathlib.Core.Bool.{Bool, true, false, not}
 use Prim.Native.Nat.{ℕ}

@@ -1,4 +1,4 @@
--- `replay::keep` meets its contract.
+-- `buffers::keep` meets its contract.
 use mathlib.Core.Path.{sym}
 use native.Mathlib.Omega.{arith}
 use lib.ListN.{length-take, length-drop}

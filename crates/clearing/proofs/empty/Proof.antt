@@ -1,4 +1,4 @@
--- `book::empty` meets its contract.
+-- `clearing::empty` meets its contract.
 use mathlib.Core.Path.{_≡_, sym, subst}
 use mathlib.Core.Bool.{false}
 use lib.ListN.{replicate}

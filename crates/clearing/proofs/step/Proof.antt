@@ -1,4 +1,4 @@
--- `book::step` meets its contract: it is the event's step, and every step keeps the book good.
+-- `clearing::step` meets its contract: it is the event's step, and every step keeps the book good.
 use mathlib.Core.Path.{_≡_}
 use Prim.Native.Nat.{_<_}
 use native.Mathlib.Omega.{arith}

@@ -1,4 +1,4 @@
--- `evening` meets its contract. Assumes nothing.
+-- `delivery::evening` meets its contract. Assumes nothing.
 use borrow.Author.Needs.{needs}
 use mathlib.Core.Path.{_≡_}
 use lib.ListN.{length}

@@ -1,4 +1,4 @@
--- `futures` meets its contract. Assumes nothing.
+-- `delivery::futures` meets its contract. Assumes nothing.
 use borrow.Author.Needs.{needs}
 use lib.IntN.{pos, _-ℤ_}
 use mir.Syntax.{w32}

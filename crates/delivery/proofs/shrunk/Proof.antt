@@ -1,4 +1,4 @@
--- `shrunk` meets its contract. Assumes nothing.
+-- `delivery::shrunk` meets its contract. Assumes nothing.
 use borrow.Author.Needs.{needs}
 use lib.IntN.{pos, _+ℤ_, _-ℤ_}
 use mir.Syntax.{w32}

@@ -1,4 +1,4 @@
--- `exercised` meets its contract. Assumes nothing.
+-- `holders::exercised` meets its contract. Assumes nothing.
 use borrow.Author.Needs.{needs}
 use mathlib.Core.Path.{_≡_, refl, ap, ap₂, _∙_}
 use Prim.Native.Nat.{min, max}

@@ -1,4 +1,4 @@
--- `held` meets its contract. Assumes nothing.
+-- `holders::held` meets its contract. Assumes nothing.
 use mathlib.Core.Path.{_≡_}
 use native.Mathlib.Omega.{arith}
 use lib.IntN.{pos}

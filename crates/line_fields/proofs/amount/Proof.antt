@@ -1,4 +1,4 @@
--- `report::field::amount` meets its contract.
+-- `line_fields::amount` meets its contract.
 use mathlib.Core.Path.{_≡_, ap, _∙_}
 use Prim.Native.Nat.{ℕ, _/_, _%_}
 use native.Mathlib.Omega.{arith}

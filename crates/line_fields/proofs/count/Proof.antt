@@ -1,4 +1,4 @@
--- `report::field::count` meets its contract.
+-- `line_fields::count` meets its contract.
 use mathlib.Core.Path.{_≡_, ap, _∙_}
 use native.Mathlib.Omega.{arith}
 use lib.IntN.{natAbs}

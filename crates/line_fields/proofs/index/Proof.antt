@@ -1,4 +1,4 @@
--- `report::field::index` meets its contract.
+-- `line_fields::index` meets its contract.
 use native.Mathlib.Omega.{arith}
 use borrow.Author.Needs.{needs}
 use Rattle.report.proofs.Fields.{byte-length}

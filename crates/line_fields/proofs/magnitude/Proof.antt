@@ -1,4 +1,4 @@
--- `report::field::magnitude` meets its contract, for every number of 64 bits.
+-- `line_fields::magnitude` meets its contract, for every number of 64 bits.
 use mathlib.Core.Path.{_≡_, refl, ap, _∙_}
 use mathlib.Core.Bool.{true}
 use Prim.Native.Nat.{ℕ, _+_, _^_}

@@ -1,4 +1,4 @@
--- `report::field::number` meets its contract.
+-- `line_fields::number` meets its contract.
 use native.Mathlib.Omega.{arith}
 use borrow.Author.Needs.{needs}
 use Rattle.report.proofs.Fields.{row-length}

@@ -1,4 +1,4 @@
--- `report::field::put_sign` meets its contract.
+-- `line_fields::put_sign` meets its contract.
 use native.Mathlib.Omega.{arith}
 use lib.IntN.{pos}
 use mir.Syntax.{w64}

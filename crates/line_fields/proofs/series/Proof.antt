@@ -1,4 +1,4 @@
--- `report::field::series` meets its contract.
+-- `line_fields::series` meets its contract.
 use native.Mathlib.Omega.{arith}
 use borrow.Author.Needs.{needs}
 use Rattle.report.specs.Lines.{seriesText}

@@ -1,4 +1,4 @@
--- `report::lines::futures` meets its contract.
+-- `lines::futures` meets its contract.
 use native.Mathlib.Omega.{arith}
 use mir.Syntax.{w64}
 use borrow.Author.Needs.{needs}

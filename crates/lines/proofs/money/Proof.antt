@@ -1,4 +1,4 @@
--- `report::lines::money` meets its contract.
+-- `lines::money` meets its contract.
 use native.Mathlib.Omega.{arith}
 use mir.Syntax.{w64}
 use borrow.Author.Needs.{needs}

@@ -1,4 +1,4 @@
--- `rows::kind::list` meets its contract.
+-- `list_row::list` meets its contract.
 use native.Mathlib.Omega.{arith}
 use borrow.Author.Needs.{needs}
 use Rattle.choice.proofs.Chain.{hit, past, tests}

@@ -1,4 +1,4 @@
--- `rows::kind::listing` meets its contract.
+-- `list_row::listing` meets its contract.
 use borrow.Author.Needs.{needs}
 use Rattle.rows.proofs.Readers.{code-terms, code-refused}
 use Rattle.rows.specs.Row.{listing}

@@ -1,4 +1,4 @@
--- `rows::cut::crlf` meets its contract.
+-- `row_cut::crlf` meets its contract.
 use borrow.Author.Needs.{needs}
 use Rattle.rows.proofs.Ends.{crlf-next, crlf-last, crlf-none}
 use Rattle.row_cut.proofs.crlf.Statement.{statement}

@@ -1,4 +1,4 @@
--- `rows::cut::kept_from` meets its contract.
+-- `row_cut::kept_from` meets its contract.
 use native.Mathlib.Omega.{arith}
 use Rattle.rows.specs.Cut.{keptFrom}
 use Rattle.row_cut.proofs.kept_from.Statement.{statement}

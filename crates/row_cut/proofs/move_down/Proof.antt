@@ -1,4 +1,4 @@
--- `rows::cut::move_down` meets its contract. The loop's invariant: the first i bytes from the place on are moved.
+-- `row_cut::move_down` meets its contract. The loop's invariant: the first i bytes from the place on are moved.
 use Prim.Native.Nat.{_+_, _-_, _≤_}
 use mathlib.Core.Path.{_≡_, refl}
 use native.Mathlib.Omega.{arith}

@@ -1,4 +1,4 @@
--- `rows::cut::row_end` meets its contract.
+-- `row_cut::row_end` meets its contract.
 use Prim.Native.Nat.{_-_}
 use mathlib.Core.Path.{_≡_, refl}
 use native.Mathlib.Omega.{arith}

@@ -1,4 +1,4 @@
--- `rows::field::byte` meets its contract.
+-- `row_fields::byte` meets its contract.
 use borrow.Author.Needs.{needs}
 use Rattle.decimal.proofs.Reading.{numeral-value, numeral-none}
 use Rattle.rows.proofs.Fields.{byte-held}

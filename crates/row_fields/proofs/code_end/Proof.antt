@@ -1,4 +1,4 @@
--- `rows::field::code_end` meets its contract.
+-- `row_fields::code_end` meets its contract.
 use borrow.Author.Needs.{needs}
 use Rattle.rows.proofs.Fields as field
 use Rattle.row_fields.proofs.code_end.Statement.{statement}

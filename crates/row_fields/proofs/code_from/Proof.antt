@@ -1,4 +1,4 @@
--- `rows::field::code_from` meets its contract.
+-- `row_fields::code_from` meets its contract.
 use Prim.Native.Nat.{_-_}
 use mathlib.Core.Path.{_≡_, refl}
 use native.Mathlib.Omega.{arith}

@@ -1,4 +1,4 @@
--- `rows::field::held_in_byte` meets its contract.
+-- `row_fields::held_in_byte` meets its contract.
 use native.Mathlib.Omega.{arith}
 use borrow.Author.Needs.{needs}
 use Rattle.rows.specs.Field.{heldInByte}

@@ -1,4 +1,4 @@
--- `rows::field::number` meets its contract.
+-- `row_fields::number` meets its contract.
 use borrow.Author.Needs.{needs}
 use Rattle.rows.proofs.Fields as field
 use Rattle.row_fields.proofs.number.Statement.{statement}

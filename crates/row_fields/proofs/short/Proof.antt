@@ -1,4 +1,4 @@
--- `rows::field::short` meets its contract.
+-- `row_fields::short` meets its contract.
 use borrow.Author.Needs.{needs}
 use Rattle.rows.proofs.Fields as field
 use Rattle.row_fields.proofs.short.Statement.{statement}

@@ -1,4 +1,4 @@
--- `report::session::answered` meets its contract.
+-- `row_lines::answered` meets its contract.
 use borrow.Author.Needs.{needs}
 use Rattle.book.specs.declared.state.Found.{Found}
 use Rattle.report.specs.Report.{answerLine}

@@ -1,4 +1,4 @@
--- `report::session::futures` meets its contract: the lines of the series passed stand in the buffer.
+-- `row_lines::futures` meets its contract: the lines of the series passed stand in the buffer.
 use mathlib.Core.Path.{_≡_, refl}
 use Prim.Native.Nat.{_+_, _-_, _*_, _≤_}
 use native.Mathlib.Omega.{arith}

@@ -1,4 +1,4 @@
--- `report::session::report` meets its contract.
+-- `row_lines::report` meets its contract.
 use native.Mathlib.Omega.{arith}
 use borrow.Author.Needs.{needs}
 use Rattle.report.specs.Report.{reportOf}

@@ -1,4 +1,4 @@
--- `report::session::series_futures` meets its contract: the lines of the accounts passed stand in the buffer.
+-- `row_lines::series_futures` meets its contract: the lines of the accounts passed stand in the buffer.
 use mathlib.Core.Path.{_≡_, refl}
 use Prim.Native.Nat.{ℕ, _+_, _-_, _*_, _≤_}
 use native.Mathlib.Omega.{arith}

@@ -1,4 +1,4 @@
--- `rows::read_row` meets its contract.
+-- `row_reader::read_row` meets its contract.
 use borrow.Author.Needs.{needs}
 use Rattle.rows.proofs.Readers.{row-long, row-empty, row-letter, row-other}
 use Rattle.rows.specs.Row.{byLetter}

@@ -1,4 +1,4 @@
--- `replay::row::answer_row` meets its contract: a row is its event, or is refused.
+-- `row_step::answer_row` meets its contract: a row is its event, or is refused.
 use mathlib.Core.Path.{refl, sym, _∙_}
 use native.Mathlib.Omega.{arith}
 use Rattle.stream.proofs.Books.{book-refused, book-accepted, lines-refused, lines-accepted}

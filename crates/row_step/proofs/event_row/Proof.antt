@@ -1,4 +1,4 @@
--- `replay::row::event_row` meets its contract: an event that is no session has its answer's line alone.
+-- `row_step::event_row` meets its contract: an event that is no session has its answer's line alone.
 use mathlib.Core.Path.{refl, ap}
 use native.Mathlib.Omega.{arith}
 use Rattle.book.specs.declared.state.Step.{Step}

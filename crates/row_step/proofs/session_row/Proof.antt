@@ -1,4 +1,4 @@
--- `replay::row::session_row` meets its contract: the step's report is the row's.
+-- `row_step::session_row` meets its contract: the step's report is the row's.
 use mathlib.Core.Path.{refl, ap}
 use Rattle.book.specs.declared.state.Step.{Step}
 use borrow.Author.Needs.{needs}

@@ -1,4 +1,4 @@
--- `replay::row::series_rows` meets its contract: each row is its event's step, which keeps the book good, and has its
+-- `rows_in_place::series_rows` meets its contract: each row is its event's step, which keeps the book good, and has its
 -- answer's line alone.
 use borrow.Author.Needs.{needs}
 use Prim.Native.Nat.{ℕ, _+_, _-_, _≤_, _<_}

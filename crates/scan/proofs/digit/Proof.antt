@@ -1,4 +1,4 @@
--- `decimal::read::digit` meets its contract.
+-- `scan::digit` meets its contract.
 use borrow.Author.Needs.{needs}
 use Rattle.choice.specs.Choice.{choose}
 use Rattle.choice.proofs.Chain.{tests}

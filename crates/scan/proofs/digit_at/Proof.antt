@@ -1,4 +1,4 @@
--- `decimal::read::digit_at` meets its contract.
+-- `scan::digit_at` meets its contract.
 use mathlib.Core.Path.{sym}
 use borrow.Author.Needs.{needs}
 use Rattle.decimal.proofs.Digits.{no-digit}

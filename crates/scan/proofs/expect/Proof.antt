@@ -1,4 +1,4 @@
--- `contract::scan::expect` meets its contract.
+-- `scan::expect` meets its contract.
 use borrow.Author.Needs.{needs}
 use Rattle.choice.specs.Choice.{choose}
 use Rattle.choice.proofs.Chain.{tests}

@@ -1,4 +1,4 @@
--- `decimal::read::grown` meets its contract.
+-- `scan::grown` meets its contract.
 use borrow.Author.Needs.{needs}
 use Rattle.scan.proofs.grown.Statement.{statement}
 use Rattle.scan.proofs.grown.Tie as tie

@@ -1,4 +1,4 @@
--- `decimal::read::numeral` meets its contract.
+-- `scan::numeral` meets its contract.
 use Prim.Native.Nat.{_-_, _≤_}
 use mathlib.Core.Path.{_≡_}
 use native.Mathlib.Omega.{arith}

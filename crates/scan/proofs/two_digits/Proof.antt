@@ -1,4 +1,4 @@
--- `decimal::read::two_digits` meets its contract.
+-- `scan::two_digits` meets its contract.
 use borrow.Author.Needs.{needs}
 use Rattle.decimal.proofs.Reading as step
 use Rattle.scan.proofs.two_digits.Statement.{statement}

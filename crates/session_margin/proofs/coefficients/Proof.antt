@@ -1,4 +1,4 @@
--- `book::coefficients` meets its contract: the loop fills the coefficients series by series.
+-- `session_margin::coefficients` meets its contract: the loop fills the coefficients series by series.
 use borrow.Author.Needs.{needs}
 use mathlib.Core.Path.{refl}
 use Prim.Native.Nat.{_-_, _≤_}

@@ -1,4 +1,4 @@
--- `book::revaluation` meets its contract: after i series each place holds what its account gains in those i.
+-- `session_margin::revaluation` meets its contract: after i series each place holds what its account gains in those i.
 use borrow.Author.Needs.{needs}
 use mathlib.Core.Path.{_≡_, sym, ap, _∙_}
 use mathlib.Core.Bool.{Bool, true, false, not}

@@ -1,4 +1,4 @@
--- `book::revalue_series` meets its contract.
+-- `session_margin::revalue_series` meets its contract.
 use mathlib.Core.Path.{refl, ap}
 use mathlib.Core.Bool.{not}
 use borrow.Author.Tests.{lt-ltb, le-ltb}

@@ -1,4 +1,4 @@
--- `book::variation_margin` meets its contract.
+-- `session_margin::variation_margin` meets its contract.
 use mathlib.Core.Path.{_≡_, sym, ap, _∙_}
 use mathlib.Core.List.{List}
 use Prim.Native.Nat.{ℕ}

@@ -1,4 +1,4 @@
--- `book::evening` meets its contract: its tests are those of the verdict, and its work that of the session.
+-- `sessions::evening` meets its contract: its tests are those of the verdict, and its work that of the session.
 use mathlib.Core.Path.{_≡_, ap, _∙_}
 use mathlib.Core.Bool.{false}
 use Prim.Native.Nat.{_+_}

@@ -1,4 +1,4 @@
--- `book::intraday` meets its contract: its tests are those of the verdict, and its work that of the session.
+-- `sessions::intraday` meets its contract: its tests are those of the verdict, and its work that of the session.
 use mathlib.Core.Path.{_≡_, _∙_}
 use mathlib.Core.Bool.{true}
 use native.Mathlib.Omega.{arith}

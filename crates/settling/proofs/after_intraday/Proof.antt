@@ -1,4 +1,4 @@
--- `book::after_intraday` meets its contract.
+-- `settling::after_intraday` meets its contract.
 use mathlib.Core.Path.{refl, ap}
 use mathlib.Core.Bool.{not}
 use borrow.Author.Tests.{lt-ltb, le-ltb}

@@ -1,4 +1,4 @@
--- `book::settle_all` meets its contract: the first i series are as the session leaves them, the others as they were.
+-- `settling::settle_all` meets its contract: the first i series are as the session leaves them, the others as they were.
 use borrow.Author.Needs.{needs}
 use mathlib.Core.Path.{_∙_}
 use Prim.Native.Nat.{ℕ, _-_, _≤_}

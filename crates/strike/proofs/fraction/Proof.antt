@@ -1,4 +1,4 @@
--- `contract::strike::fraction` meets its contract.
+-- `strike::fraction` meets its contract.
 use borrow.Author.Needs.{needs}
 use Rattle.contract.specs.Strike.{fractionAt}
 use Rattle.decimal.proofs.Reading.{digit-room}

@@ -1,4 +1,4 @@
--- `contract::strike::hundredths` meets its contract.
+-- `strike::hundredths` meets its contract.
 use borrow.Author.Needs.{needs}
 use Rattle.choice.specs.Choice.{choose}
 use Rattle.choice.proofs.Chain.{tests}

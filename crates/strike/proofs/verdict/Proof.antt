@@ -1,4 +1,4 @@
--- `contract::strike::verdict` meets its contract.
+-- `strike::verdict` meets its contract.
 use Rattle.choice.specs.Choice.{choose}
 use Rattle.choice.proofs.Chain.{tests}
 use Rattle.contract.specs.Strike.{strikeVerdict}

@@ -1,4 +1,4 @@
--- `value::rounded` meets its contract.
+-- `valuation::rounded` meets its contract.
 use mathlib.Core.Path.{_≡_, sym}
 use Prim.Native.Nat.{ℕ, _<_, _%_}
 use native.Mathlib.Nat.{mod-lt}

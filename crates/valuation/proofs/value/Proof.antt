@@ -1,4 +1,4 @@
--- `value::value` meets its contract: a product of two numbers of 32 bits fits 64.
+-- `valuation::value` meets its contract: a product of two numbers of 32 bits fits 64.
 use Prim.Native.Nat.{ℕ, _*_, _^_, _<_, _≤_}
 use native.Mathlib.Nat.{mul-le-mul}
 use native.Mathlib.Omega.{arith}

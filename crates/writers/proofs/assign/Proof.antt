@@ -1,4 +1,4 @@
--- `assign` meets its contract. Assumes nothing.
+-- `writers::assign` meets its contract. Assumes nothing.
 use borrow.Author.Needs.{needs}
 use mathlib.Core.Path.{refl, sym, ap, _∙_}
 use Prim.Native.Nat.{ℕ}

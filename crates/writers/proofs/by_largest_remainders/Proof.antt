@@ -1,4 +1,4 @@
--- `by_largest_remainders` meets its contract: after each turn one place more is served, in the order of their ranks. Assumes nothing.
+-- `writers::by_largest_remainders` meets its contract: after each turn one place more is served, in the order of their ranks. Assumes nothing.
 use borrow.Author.Needs.{needs}
 use borrow.Author.Tests.{le-ltb}
 use mathlib.Core.Logic.{⊎-elim}

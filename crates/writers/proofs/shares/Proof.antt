@@ -1,4 +1,4 @@
--- `shares` meets its contract: the places passed have their parts. Assumes nothing.
+-- `writers::shares` meets its contract: the places passed have their parts. Assumes nothing.
 use borrow.Author.Needs.{needs}
 use mathlib.Core.Path.{refl, ap}
 use Prim.Native.Nat.{ℕ, _≤_, _-_, _*_, _/_, _%_}

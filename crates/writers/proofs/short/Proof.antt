@@ -1,4 +1,4 @@
--- `short` meets its contract. Assumes nothing.
+-- `writers::short` meets its contract. Assumes nothing.
 use mathlib.Core.Path.{_≡_, _∙_}
 use native.Mathlib.Omega.{arith}
 use lib.IntN.{pos, _-ℤ_}

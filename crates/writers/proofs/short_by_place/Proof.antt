@@ -1,4 +1,4 @@
--- `short_by_place` meets its contract: the places passed have their numbers. Assumes nothing.
+-- `writers::short_by_place` meets its contract: the places passed have their numbers. Assumes nothing.
 use borrow.Author.Needs.{needs}
 use mathlib.Core.Path.{refl, ap, _∙_}
 use Prim.Native.Nat.{_≤_, _-_}

@@ -1,4 +1,4 @@
--- `replay::number::of_code` meets its contract.
+-- `answers::number::of_code` meets its contract.
 use Rattle.contract.specs.Code.{number}
 use borrow.Author.Needs.{needs}
 use Rattle.answers.proofs.number.of_code.Statement.{statement}

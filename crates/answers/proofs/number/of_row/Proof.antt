@@ -1,4 +1,4 @@
--- `replay::number::of_row` meets its contract.
+-- `answers::number::of_row` meets its contract.
 use Rattle.rows.specs.Row.{number}
 use borrow.Author.Needs.{needs}
 use Rattle.answers.proofs.number.of_row.Statement.{statement}

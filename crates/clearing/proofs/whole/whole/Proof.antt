@@ -1,4 +1,4 @@
--- `event::whole` meets its contract: each arm is its event.
+-- `clearing::whole::whole` meets its contract: each arm is its event.
 use mathlib.Core.Path.{_≡_, refl, sym, ap, _∙_}
 use native.Mathlib.Omega.{arith}
 use lib.Dec.{ltb}

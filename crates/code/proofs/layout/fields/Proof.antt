@@ -1,4 +1,4 @@
--- `contract::layout::fields` meets its contract.
+-- `code::layout::fields` meets its contract.
 use borrow.Author.Needs.{needs}
 use Rattle.contract.proofs.Steps.{fields}
 use Rattle.contract.specs.Code.{layoutAt}

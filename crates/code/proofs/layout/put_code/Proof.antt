@@ -1,4 +1,4 @@
--- `contract::layout::put_code` meets its contract.
+-- `code::layout::put_code` meets its contract.
 use native.Mathlib.Omega.{arith}
 use borrow.Author.Needs.{needs}
 use Rattle.contract.proofs.Writing.{code-length, head-length, put-all}

@@ -1,4 +1,4 @@
--- `contract::layout::put_head` meets its contract.
+-- `code::layout::put_head` meets its contract.
 use borrow.Author.Needs.{needs}
 use Rattle.decimal.proofs.Putting.{puts}
 use Rattle.code.proofs.layout.put_head.Statement.{statement}

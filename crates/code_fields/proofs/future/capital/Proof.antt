@@ -1,4 +1,4 @@
--- `contract::future::capital` meets its contract.
+-- `code_fields::future::capital` meets its contract.
 use Rattle.choice.specs.Choice.{choose}
 use Rattle.choice.proofs.Chain.{tests}
 use Rattle.contract.specs.Future.{capitalOf}

@@ -1,4 +1,4 @@
--- `contract::future::month` meets its contract.
+-- `code_fields::future::month` meets its contract.
 use borrow.Author.Needs.{needs}
 use Rattle.contract.proofs.FutureField as field
 use Rattle.code_fields.proofs.future.month.Statement.{statement}

@@ -1,4 +1,4 @@
--- `contract::future::name` meets its contract.
+-- `code_fields::future::name` meets its contract.
 use Prim.Native.Nat.{_-_, _≤_}
 use mathlib.Core.Path.{_≡_, refl}
 use native.Mathlib.Omega.{arith}

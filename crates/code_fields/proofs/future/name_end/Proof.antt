@@ -1,4 +1,4 @@
--- `contract::future::name_end` meets its contract.
+-- `code_fields::future::name_end` meets its contract.
 use Rattle.choice.specs.Choice.{choose}
 use Rattle.choice.proofs.Chain.{tests}
 use Rattle.contract.specs.Future.{nameEnd}

@@ -1,4 +1,4 @@
--- `contract::future::year` meets its contract.
+-- `code_fields::future::year` meets its contract.
 use borrow.Author.Needs.{needs}
 use Rattle.contract.proofs.Steps.{fields}
 use Rattle.contract.specs.Future.{yearAt}

@@ -1,4 +1,4 @@
--- `contract::kind::category` meets its contract.
+-- `code_fields::kind::category` meets its contract.
 use borrow.Author.Needs.{needs}
 use Rattle.contract.proofs.KindField.{category-is, category-past}
 use Rattle.choice.specs.Choice.{choose}

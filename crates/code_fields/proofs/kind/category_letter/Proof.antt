@@ -1,4 +1,4 @@
--- `contract::kind::category_letter` meets its contract.
+-- `code_fields::kind::category_letter` meets its contract.
 use borrow.Author.Needs.{needs}
 use Rattle.contract.specs.Kind.{categoryByte}
 use Rattle.code_fields.proofs.kind.category_letter.Statement.{statement}

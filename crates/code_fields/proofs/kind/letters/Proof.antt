@@ -1,4 +1,4 @@
--- `contract::kind::letters` meets its contract.
+-- `code_fields::kind::letters` meets its contract.
 use borrow.Author.Needs.{needs}
 use Rattle.contract.proofs.Steps.{fields}
 use Rattle.contract.specs.Kind.{kindAt}

@@ -1,4 +1,4 @@
--- `contract::kind::option_type` meets its contract.
+-- `code_fields::kind::option_type` meets its contract.
 use borrow.Author.Needs.{needs}
 use Rattle.contract.proofs.KindField.{type-is, type-past}
 use Rattle.choice.specs.Choice.{choose}

@@ -1,4 +1,4 @@
--- `contract::kind::put_letters` meets its contract.
+-- `code_fields::kind::put_letters` meets its contract.
 use borrow.Author.Needs.{needs}
 use Rattle.contract.proofs.KindField.{put-kind}
 use Rattle.code_fields.proofs.kind.put_letters.Statement.{statement}

@@ -1,4 +1,4 @@
--- `contract::kind::type_letter` meets its contract.
+-- `code_fields::kind::type_letter` meets its contract.
 use borrow.Author.Needs.{needs}
 use Rattle.contract.specs.Kind.{typeByte}
 use Rattle.code_fields.proofs.kind.type_letter.Statement.{statement}

@@ -1,4 +1,4 @@
--- `book::list` meets its contract: its tests are those of the verdict, in their order.
+-- `listing::event::list` meets its contract: its tests are those of the verdict, in their order.
 use mathlib.Core.Path.{sym, _∙_}
 use Prim.Native.Nat.{_+_}
 use native.Mathlib.Omega.{arith}

@@ -1,4 +1,4 @@
--- `effect::mark` meets its contract: the effect by the verdict of the series.
+-- `marking::effect::mark` meets its contract: the effect by the verdict of the series.
 use mathlib.Core.Path.{refl, sym, ap, _∙_}
 use native.Mathlib.Omega.{arith}
 use mathlib.Core.List.{[]}

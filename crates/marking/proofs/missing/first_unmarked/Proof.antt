@@ -1,4 +1,4 @@
--- `book::first_unmarked` meets its contract: what the search from i on finds is what the whole search finds.
+-- `marking::missing::first_unmarked` meets its contract: what the search from i on finds is what the whole search finds.
 use borrow.Author.Needs.{needs}
 use mathlib.Core.Path.{_≡_, sym, _∙_}
 use mathlib.Core.Logic.{⊎-elim}

@@ -1,4 +1,4 @@
--- `series::mark_verdict` meets its contract: the tests are those of the rule, in its order.
+-- `marking::verdict::mark_verdict` meets its contract: the tests are those of the rule, in its order.
 use Rattle.choice.proofs.Chain.{hit, past, tests}
 use borrow.Author.Needs.{needs}
 use Rattle.marking.proofs.verdict.mark_verdict.Statement.{statement}

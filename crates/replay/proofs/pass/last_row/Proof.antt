@@ -1,4 +1,4 @@
--- `replay::last_row` meets its contract.
+-- `replay::pass::last_row` meets its contract.
 use mathlib.Core.Path.{refl, sym, _∙_}
 use native.Mathlib.Omega.{arith}
 use lib.ListN.{take}

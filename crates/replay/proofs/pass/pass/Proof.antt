@@ -1,4 +1,4 @@
--- `replay::pass` meets its contract.
+-- `replay::pass::pass` meets its contract.
 use mathlib.Core.Path.{refl, sym, ap, _∙_}
 use native.Mathlib.Omega.{arith}
 use lib.Seq.{length-take-le}

@@ -1,4 +1,4 @@
--- `replay::row::whole_rows` meets its contract: the book stays good, and there is room for the lines of one more row.
+-- `replay::pass::whole_rows` meets its contract: the book stays good, and there is room for the lines of one more row.
 use borrow.Author.Needs.{needs}
 use Prim.Native.Nat.{ℕ, _+_, _-_, _≤_}
 use mathlib.Core.Path.{_≡_, refl, sym, ap, _∙_}

@@ -1,4 +1,4 @@
--- `effect::decline` meets its contract: the effect by the verdict of the series.
+-- `requests::effect::decline` meets its contract: the effect by the verdict of the series.
 use mathlib.Core.Path.{refl}
 use Rattle.book.proofs.Effects.{effect-refused, effect-allowed}
 use Rattle.book.proofs.Outcome.{verdict-is}

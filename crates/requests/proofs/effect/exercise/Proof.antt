@@ -1,4 +1,4 @@
--- `effect::exercise` meets its contract: the effect by the verdict of the series.
+-- `requests::effect::exercise` meets its contract: the effect by the verdict of the series.
 use mathlib.Core.Path.{refl, sym, _∙_}
 use native.Mathlib.Omega.{arith}
 use Rattle.integer.proofs.Absolute.{abs-parts}

@@ -1,4 +1,4 @@
--- `series::exercise_verdict` meets its contract: the tests are those of the rule, in its order.
+-- `requests::verdict::exercise_verdict` meets its contract: the tests are those of the rule, in its order.
 use mathlib.Core.Path.{_≡_}
 use mir.Syntax.{w32}
 use Rattle.choice.proofs.Chain.{hit, past, tests}

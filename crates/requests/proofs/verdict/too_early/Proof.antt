@@ -1,4 +1,4 @@
--- `series::too_early` meets its contract.
+-- `requests::verdict::too_early` meets its contract.
 use Rattle.series.specs.Verdicts.{tooEarly}
 use borrow.Author.Needs.{needs}
 use Rattle.requests.proofs.verdict.too_early.Statement.{statement}

@@ -1,4 +1,4 @@
--- `rows::kind::at_end` meets its contract.
+-- `row_reader::kind::at_end` meets its contract.
 use Rattle.choice.proofs.Chain.{hit, past, tests}
 use Rattle.rows.specs.Row.{atEnd}
 use Rattle.row_reader.proofs.kind.at_end.Statement.{statement}

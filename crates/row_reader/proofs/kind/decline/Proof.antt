@@ -1,4 +1,4 @@
--- `rows::kind::decline` meets its contract.
+-- `row_reader::kind::decline` meets its contract.
 use borrow.Author.Needs.{needs}
 use Rattle.rows.proofs.Readers.{fields}
 use Rattle.rows.specs.Row.{declineRow}

@@ -1,4 +1,4 @@
--- `rows::kind::evening` meets its contract.
+-- `row_reader::kind::evening` meets its contract.
 use borrow.Author.Needs.{needs}
 use Rattle.rows.specs.Row.{eveningRow}
 use Rattle.row_reader.proofs.kind.evening.Statement.{statement}

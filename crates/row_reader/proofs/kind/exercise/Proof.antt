@@ -1,4 +1,4 @@
--- `rows::kind::exercise` meets its contract.
+-- `row_reader::kind::exercise` meets its contract.
 use borrow.Author.Needs.{needs}
 use Rattle.rows.proofs.Readers.{fields}
 use Rattle.rows.specs.Row.{exerciseRow}

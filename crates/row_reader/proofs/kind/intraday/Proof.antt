@@ -1,4 +1,4 @@
--- `rows::kind::intraday` meets its contract.
+-- `row_reader::kind::intraday` meets its contract.
 use borrow.Author.Needs.{needs}
 use Rattle.rows.specs.Row.{intradayRow}
 use Rattle.row_reader.proofs.kind.intraday.Statement.{statement}

@@ -1,4 +1,4 @@
--- `rows::kind::mark` meets its contract.
+-- `row_reader::kind::mark` meets its contract.
 use borrow.Author.Needs.{needs}
 use Rattle.rows.proofs.Readers.{fields}
 use Rattle.rows.specs.Row.{markRow}

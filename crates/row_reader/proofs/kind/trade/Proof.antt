@@ -1,4 +1,4 @@
--- `rows::kind::trade` meets its contract.
+-- `row_reader::kind::trade` meets its contract.
 use borrow.Author.Needs.{needs}
 use Rattle.rows.proofs.Readers.{fields}
 use Rattle.rows.specs.Row.{tradeRow}

@@ -1,4 +1,4 @@
--- `series::closing` meets its contract.
+-- `settling::expiry::closing` meets its contract.
 use mathlib.Core.Path.{refl}
 use Rattle.choice.proofs.Chain.{hit, past}
 use Rattle.settling.proofs.expiry.closing.Statement.{statement}

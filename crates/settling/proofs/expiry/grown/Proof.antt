@@ -1,4 +1,4 @@
--- `series::grown` meets its contract: the loop fills the sums place by place.
+-- `settling::expiry::grown` meets its contract: the loop fills the sums place by place.
 use borrow.Author.Needs.{needs}
 use Prim.Native.Nat.{_-_, _≤_}
 use native.Mathlib.Omega.{arith}

@@ -1,4 +1,4 @@
--- `series::settle` meets its contract.
+-- `settling::expiry::settle` meets its contract.
 use mathlib.Core.Path.{ap, _∙_}
 use native.Mathlib.Omega.{arith}
 use lib.ListN.{replicate}

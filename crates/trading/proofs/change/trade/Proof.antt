@@ -1,4 +1,4 @@
--- `series::trade` meets its contract: the two stores are a move of the quantity.
+-- `trading::change::trade` meets its contract: the two stores are a move of the quantity.
 use lib.IntN.{pos}
 use mir.Syntax.{w32}
 use Rattle.integer.proofs.Machine.{Reads, nat, fits, more, fewer, moved-is}

@@ -1,4 +1,4 @@
--- `effect::trade` meets its contract: the effect by the verdict of the series.
+-- `trading::effect::trade` meets its contract: the effect by the verdict of the series.
 use mathlib.Core.Path.{refl, sym, _∙_}
 use native.Mathlib.Omega.{arith}
 use Rattle.choice.proofs.Chain.{hit, past, tests}

@@ -1,4 +1,4 @@
--- `series::passes_limit` meets its contract, by the sign of the position.
+-- `trading::verdict::passes_limit` meets its contract, by the sign of the position.
 use mir.Syntax.{w64}
 use Rattle.integer.proofs.Machine.{any}
 use Rattle.trading.proofs.Limits.{limit-short, limit-long}

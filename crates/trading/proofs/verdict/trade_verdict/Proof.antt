@@ -1,4 +1,4 @@
--- `series::trade_verdict` meets its contract: the tests are those of the rule, in its order.
+-- `trading::verdict::trade_verdict` meets its contract: the tests are those of the rule, in its order.
 use mathlib.Core.Path.{_≡_}
 use Prim.Native.Nat.{_≤_}
 use native.Mathlib.Omega.{arith}

@@ -1,4 +1,4 @@
--- `total` meets its contract: the sum so far is that of the places passed. Assumes nothing.
+-- `writers::sum::total` meets its contract: the sum so far is that of the places passed. Assumes nothing.
 use borrow.Author.Needs.{needs}
 use mathlib.Core.Path.{_≡_, sym, ap, _∙_}
 use Prim.Native.Nat.{ℕ, _≤_, _-_, _*_}
