@@ -1,6 +1,4 @@
 // Contract codes, as GAZR-3.23M150323CA17000: the reader, the writer, and the futures code that a code begins with.
-mod layout; // layout.rt: the fields one after the other
-
 use contract::types::LayoutRead;
 use contract::types::Read;
 use contract::types::Refusal;
@@ -35,7 +33,7 @@ fn verdict(terms: Terms) -> Verdict
 pub fn read(code: &[u8]) -> Read
     ensures { λ r. ⌜ r ≡ readCode (now (code .entry)) ⌝ }
 {
-    let LayoutRead::Laid { future, terms } = layout::fields(code) else {
+    let LayoutRead::Laid { future, terms } = code_layout::fields(code) else {
         return Read::NoCode(Refusal::Layout);
     };
     if let Verdict::Refused(refusal) = verdict(terms) {
@@ -96,7 +94,7 @@ pub fn write(future: &[u8], terms: Terms) -> Written
         };
     }
     let mut bytes = [0; 31];
-    let len = layout::put_code(&mut bytes, future, terms);
+    let len = code_layout::put_code(&mut bytes, future, terms);
     Written {
         bytes,
         len,

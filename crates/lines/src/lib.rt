@@ -17,48 +17,17 @@ pub fn header(out: &mut [u8], at: usize) -> usize
     put::bytes(out, at, b"row,kind,series,account,amount\r\n")
 }
 
-// Row and kind.
-fn begin(out: &mut [u8], at: usize, row: u64, kind: u8) -> usize
-    requires { ⌜ at + 23 ≤ length (now out) ⌝ }
-    ensures { λ r. ⌜ Put (now (out .entry)) at (text.heading row kind) (now (out .exit)) r ⌝ }
-    ensures { λ r. ⌜ r ≤ at + 23 ⌝ }
-{
-    let comma = line_fields::number(out, at, row);
-    let letter = put::byte(out, comma, b',');
-    let next = put::byte(out, letter, kind);
-    put::byte(out, next, b',')
-}
-
-// An account, with the commas around it.
-fn account(out: &mut [u8], at: usize, a: u8) -> usize
-    requires { ⌜ at + 5 ≤ length (now out) ⌝ }
-    ensures { λ r. ⌜ Put (now (out .entry)) at (44 ∷ (decimal a ++ 44 ∷ [])) (now (out .exit)) r ⌝ }
-    ensures { λ r. ⌜ r ≤ at + 5 ⌝ }
-{
-    let digits = put::byte(out, at, b',');
-    let comma = line_fields::index(out, digits, a);
-    put::byte(out, comma, b',')
-}
-
-// The end of a line.
-fn end(out: &mut [u8], at: usize) -> usize
-    requires { ⌜ at + 2 ≤ length (now out) ⌝ }
-    ensures { λ r. ⌜ Put (now (out .entry)) at text.crlf (now (out .exit)) r ⌝ }
-{
-    put::bytes(out, at, b"\r\n")
-}
-
 // The number of an answer, with the series that it names.
 pub fn answer(out: &mut [u8], at: usize, row: u64, found: Found, number: u64) -> usize
     requires { ⌜ at + 64 ≤ length (now out) ⌝ }
     ensures { λ r. ⌜ Put (now (out .entry)) at (rule.answerLine row found number) (now (out .exit)) r ⌝ }
     ensures { λ r. ⌜ r ≤ at + 64 ⌝ }
 {
-    let series = begin(out, at, row, b'A');
+    let series = line_fields::begin(out, at, row, b'A');
     let commas = line_fields::series(out, series, found);
     let digits = put::bytes(out, commas, b",,");
     let next = line_fields::number(out, digits, number);
-    end(out, next)
+    line_fields::end(out, next)
 }
 
 // The money of an account, where it is not 0.
@@ -70,10 +39,10 @@ pub fn money(out: &mut [u8], at: usize, row: u64, a: u8, amount: i64) -> usize
     if amount == 0 {
         return at;
     }
-    let comma = begin(out, at, row, b'M');
-    let roubles = account(out, comma, a);
+    let comma = line_fields::begin(out, at, row, b'M');
+    let roubles = line_fields::account(out, comma, a);
     let next = line_fields::amount(out, roubles, amount);
-    end(out, next)
+    line_fields::end(out, next)
 }
 
 // The futures that arose for an account in series i, where there are any.
@@ -85,9 +54,9 @@ pub fn futures(out: &mut [u8], at: usize, row: u64, i: u8, a: u8, arisen: i64) -
     if arisen == 0 {
         return at;
     }
-    let series = begin(out, at, row, b'F');
+    let series = line_fields::begin(out, at, row, b'F');
     let comma = line_fields::index(out, series, i);
-    let count = account(out, comma, a);
+    let count = line_fields::account(out, comma, a);
     let next = line_fields::count(out, count, arisen);
-    end(out, next)
+    line_fields::end(out, next)
 }

@@ -1,4 +1,3 @@
-use crate::verdict::trade_verdict;
 use book::state::Effect;
 use exercise::types::PLACES;
 use margin::trade::Trade;
@@ -6,6 +5,7 @@ use series::refusal::Refusal;
 use series::refusal::Verdict;
 use series::state::Listing;
 use terms::bounds::BLOTTER;
+use trade_verdict::trade_verdict;
 ghost use mathlib.Core.Path.{_≡_};
 ghost use Prim.Native.Nat.{_<_};
 ghost use Rattle.series.specs.Refusals.{_then_};

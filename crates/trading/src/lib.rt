@@ -1,4 +1,3 @@
-// A trade: whether it may be made, what it does, and the positions that it moves.
+// A trade: what it does, and the positions that it moves.
 pub mod change; // change.rt: the positions that it moves
 pub mod effect; // effect.rt: what a trade does
-pub mod verdict; // verdict.rt: whether it may be made

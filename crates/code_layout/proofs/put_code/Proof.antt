@@ -1,9 +1,9 @@
--- `code::layout::put_code` meets its contract.
+-- `code_layout::put_code` meets its contract.
 use native.Mathlib.Omega.{arith}
 use borrow.Author.Needs.{needs}
 use Rattle.contract.proofs.Writing.{code-length, head-length, put-all}
-use Rattle.code.proofs.layout.put_code.Statement.{statement}
-use Rattle.code.proofs.layout.put_code.Tie as tie
+use Rattle.code_layout.proofs.put_code.Statement.{statement}
+use Rattle.code_layout.proofs.put_code.Tie as tie
 
 put-head-requires : tie.Need-put-head-requires
 put-head-requires c κs = (omega (arith, code-length (c .before .before .before .before .args .future .now) (c .before .before .before .before .args .terms)), c .before .before .before .before .pre .1)

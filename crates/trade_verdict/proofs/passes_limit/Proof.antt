@@ -1,10 +1,10 @@
--- `trading::verdict::passes_limit` meets its contract, by the sign of the position.
+-- `trade_verdict::passes_limit` meets its contract, by the sign of the position.
 use mir.Syntax.{w64}
 use Rattle.integer.proofs.Machine.{any}
-use Rattle.trading.proofs.Limits.{limit-short, limit-long}
+use Rattle.trade_verdict.proofs.Limits.{limit-short, limit-long}
 use borrow.Author.Needs.{needs}
-use Rattle.trading.proofs.verdict.passes_limit.Statement.{statement}
-use Rattle.trading.proofs.verdict.passes_limit.Tie as tie
+use Rattle.trade_verdict.proofs.passes_limit.Statement.{statement}
+use Rattle.trade_verdict.proofs.passes_limit.Tie as tie
 
 sub-result : tie.Need-sub-result
 sub-result c = search needs

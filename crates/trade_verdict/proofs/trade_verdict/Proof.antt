@@ -1,4 +1,4 @@
--- `trading::verdict::trade_verdict` meets its contract: the tests are those of the rule, in its order.
+-- `trade_verdict::trade_verdict` meets its contract: the tests are those of the rule, in its order.
 use mathlib.Core.Path.{_≡_}
 use Prim.Native.Nat.{_≤_}
 use native.Mathlib.Omega.{arith}
@@ -9,8 +9,8 @@ use Rattle.integer.proofs.Machine.{Reads, any, nat, plus, minus, local, fits}
 use Rattle.integer.specs.Table.{at}
 use Rattle.series.specs.Verdicts.{passesLimit}
 use borrow.Author.Needs.{needs}
-use Rattle.trading.proofs.verdict.trade_verdict.Statement.{statement}
-use Rattle.trading.proofs.verdict.trade_verdict.Tie as tie
+use Rattle.trade_verdict.proofs.trade_verdict.Statement.{statement}
+use Rattle.trade_verdict.proofs.trade_verdict.Tie as tie
 
 returns : tie.Need-returns
 returns c = search (hit, past, tests) depth 24

@@ -1,9 +1,9 @@
--- `code::layout::fields` meets its contract.
+-- `code_layout::fields` meets its contract.
 use borrow.Author.Needs.{needs}
 use Rattle.contract.proofs.Steps.{fields}
 use Rattle.contract.specs.Code.{layoutAt}
-use Rattle.code.proofs.layout.fields.Statement.{statement}
-use Rattle.code.proofs.layout.fields.Tie as tie
+use Rattle.code_layout.proofs.fields.Statement.{statement}
+use Rattle.code_layout.proofs.fields.Tie as tie
 
 leading-requires : tie.Need-leading-requires
 leading-requires c κs = search needs

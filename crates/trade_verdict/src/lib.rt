@@ -1,4 +1,4 @@
-// The conditions, tested in the order of the refusals' numbers.
+// Whether a trade may be made: the conditions, tested in the order of the refusals' numbers.
 use exercise::types::PLACES;
 use series::refusal::Refusal;
 use series::refusal::Verdict;

@@ -1,8 +1,8 @@
--- `code::layout::put_head` meets its contract.
+-- `code_layout::put_head` meets its contract.
 use borrow.Author.Needs.{needs}
 use Rattle.decimal.proofs.Putting.{puts}
-use Rattle.code.proofs.layout.put_head.Statement.{statement}
-use Rattle.code.proofs.layout.put_head.Tie as tie
+use Rattle.code_layout.proofs.put_head.Statement.{statement}
+use Rattle.code_layout.proofs.put_head.Tie as tie
 
 bytes-requires : tie.Need-bytes-requires
 bytes-requires c κs = search needs
