@@ -6,7 +6,7 @@ use book::state::Book;
 use book::state::Event;
 use book::state::Found;
 use book::state::Step;
-use marking::missing::first_unmarked;
+use missing_mark::first_unmarked;
 use refusing::refused;
 use series::refusal::Refusal;
 use session_margin::variation_margin;

@@ -1,4 +1,4 @@
--- `marking::missing::first_unmarked` meets its contract: what the search from i on finds is what the whole search finds.
+-- `missing_mark::first_unmarked` meets its contract: what the search from i on finds is what the whole search finds.
 use borrow.Author.Needs.{needs}
 use mathlib.Core.Path.{_≡_, sym, _∙_}
 use mathlib.Core.Logic.{⊎-elim}
@@ -6,8 +6,8 @@ use Prim.Native.Nat.{_-_, _≤_}
 use native.Mathlib.Omega.{arith}
 use Rattle.book.specs.Verdicts.{firstFrom}
 use Rattle.book.proofs.Search.{unmarked-here, marked-here, expired-here, search-ends, search-starts}
-use Rattle.marking.proofs.missing.first_unmarked.Statement.{statement}
-use Rattle.marking.proofs.missing.first_unmarked.Tie as tie
+use Rattle.missing_mark.proofs.first_unmarked.Statement.{statement}
+use Rattle.missing_mark.proofs.first_unmarked.Tie as tie
 
 abbrev Inv-loop : tie.InvT-loop
 Inv-loop book i₀ i = (i ≤ book .listed) × (firstFrom book (book .listed) 0 ≡ firstFrom book (book .listed - i) i)

@@ -1,3 +1,4 @@
+// What a session asks of the marks: the lowest live series that lacks one.
 use book::state::Book;
 use book::state::Found;
 ghost use mathlib.Core.Path.{_≡_};
