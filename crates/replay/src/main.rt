@@ -1,9 +1,8 @@
 // Replays rows of events: standard input to standard output, in a loop that holds the book.
-mod pass; // pass.rt: the rows of a buffer
 
+use buffer_rows::last_row;
+use buffer_rows::pass;
 use buffers::fill;
-use pass::last_row;
-use pass::pass;
 use stream::types::Input;
 use stream::types::Replay;
 use stream::types::Run;

@@ -1,4 +1,4 @@
--- `replay::pass::whole_rows` meets its contract: the book stays good, and there is room for the lines of one more row.
+-- `buffer_rows::whole_rows` meets its contract: the book stays good, and there is room for the lines of one more row.
 use borrow.Author.Needs.{needs}
 use Prim.Native.Nat.{ℕ, _+_, _-_, _≤_}
 use mathlib.Core.Path.{_≡_, refl, sym, ap, _∙_}
@@ -10,8 +10,8 @@ use Rattle.rows.specs.Cut.{Cut, cut}
 use Rattle.rows.proofs.Ends.{end-fits, no-row}
 use Rattle.stream.specs.Output.{AnsweredUpTo}
 use Rattle.stream.proofs.Lines.{up-to-none, up-to-more, row-answered, next-answered, all-answered}
-use Rattle.replay.proofs.pass.whole_rows.Statement.{statement}
-use Rattle.replay.proofs.pass.whole_rows.Tie as tie
+use Rattle.buffer_rows.proofs.whole_rows.Statement.{statement}
+use Rattle.buffer_rows.proofs.whole_rows.Tie as tie
 
 abbrev Inv-loop : tie.InvT-loop
 Inv-loop input out₀ now₀ from₀ out now from =

@@ -1,11 +1,11 @@
--- `replay::pass::pass` meets its contract.
+-- `buffer_rows::pass` meets its contract.
 use mathlib.Core.Path.{refl, sym, ap, _∙_}
 use native.Mathlib.Omega.{arith}
 use lib.Seq.{length-take-le}
 use Rattle.rows.specs.Cut.{kept}
 use borrow.Author.Needs.{needs}
-use Rattle.replay.proofs.pass.pass.Statement.{statement}
-use Rattle.replay.proofs.pass.pass.Tie as tie
+use Rattle.buffer_rows.proofs.pass.Statement.{statement}
+use Rattle.buffer_rows.proofs.pass.Tie as tie
 
 slice-reshare-prefix-whole-rows : tie.Need-slice-reshare-prefix-whole-rows
 slice-reshare-prefix-whole-rows c = search needs
