@@ -1,4 +1,4 @@
-// The rows of a buffer, and the last row of the input.
+// The rows of a buffer, and what it keeps of the row that it leaves unfinished.
 use buffers::flushed;
 use buffers::keep;
 use row_step::answer_row;
@@ -8,12 +8,11 @@ use stream::types::Passed;
 use stream::types::Replay;
 use stream::types::Run;
 ghost use mathlib.Core.Path.{_≡_};
-ghost use mathlib.Core.Bool.{false};
 ghost use mathlib.Core.List.{[]};
 ghost use Prim.Native.Nat.{_+_, _≤_};
 ghost use lib.ListN.{length, take, drop};
 ghost use Rattle.book.specs.Good.{Good};
-ghost use Rattle.rows.specs.Cut.{cut, lastRow, keptBytes, kept};
+ghost use Rattle.rows.specs.Cut.{cut, keptBytes, kept};
 ghost use Rattle.stream.specs.Output.{Answered};
 
 // The rows of a buffer that end in it.
@@ -52,28 +51,5 @@ pub fn pass(buf: &mut [u8], out: &mut [u8], replay: Replay, end: usize) -> Run
         replay: next,
         have: left,
         going: intact,
-    }
-}
-
-// The end of the input: what it left without CRLF is a row.
-pub fn last_row(buf: &[u8], out: &mut [u8], replay: Replay, have: usize) -> Run
-    requires { ⌜ (Good (replay .book)) × (replay .at ≤ 28608) × (65536 ≤ length (now out)) × (have ≤ length (now buf)) ⌝ }
-    ensures { λ r. ⌜ (Good (r .replay .book)) × (r .replay .at ≤ 28608) × (r .have ≤ 0) × Answered replay (now (out .entry)) (lastRow (take have (now (buf .entry)))) (r .replay) (now (out .exit)) × (r .going ≡ false) ⌝ }
-{
-    if have == 0 {
-        return Run {
-            replay: replay,
-            have: 0,
-            going: false,
-        };
-    }
-    let mut next = answer_row(&buf[..have], out, replay);
-    let waiting = flushed(out, next.at, next.intact);
-    next.at = waiting.at;
-    next.intact = waiting.intact;
-    Run {
-        replay: next,
-        have: 0,
-        going: false,
     }
 }

@@ -1,17 +1,42 @@
 // Replays rows of events: standard input to standard output, in a loop that holds the book.
-
-use buffer_rows::last_row;
 use buffer_rows::pass;
 use buffers::fill;
+use buffers::flushed;
+use row_step::answer_row;
 use stream::types::Input;
 use stream::types::Replay;
 use stream::types::Run;
 use stream::types::Waiting;
+ghost use mathlib.Core.Path.{_≡_};
+ghost use mathlib.Core.Bool.{false};
 ghost use Prim.Native.Nat.{_≤_, _<_};
-ghost use lib.ListN.{length};
+ghost use lib.ListN.{length, take};
 ghost use Rattle.book.specs.Good.{Good};
-ghost use Rattle.rows.specs.Cut.{keptBytes};
-ghost use Rattle.stream.specs.Output.{Turned, Replayed};
+ghost use Rattle.rows.specs.Cut.{lastRow, keptBytes};
+ghost use Rattle.stream.specs.Output.{Answered, Turned, Replayed};
+
+// The end of the input: what it left without CRLF is a row.
+fn last_row(buf: &[u8], out: &mut [u8], replay: Replay, have: usize) -> Run
+    requires { ⌜ (Good (replay .book)) × (replay .at ≤ 28608) × (65536 ≤ length (now out)) × (have ≤ length (now buf)) ⌝ }
+    ensures { λ r. ⌜ (Good (r .replay .book)) × (r .replay .at ≤ 28608) × (r .have ≤ 0) × Answered replay (now (out .entry)) (lastRow (take have (now (buf .entry)))) (r .replay) (now (out .exit)) × (r .going ≡ false) ⌝ }
+{
+    if have == 0 {
+        return Run {
+            replay: replay,
+            have: 0,
+            going: false,
+        };
+    }
+    let mut next = answer_row(&buf[..have], out, replay);
+    let waiting = flushed(out, next.at, next.intact);
+    next.at = waiting.at;
+    next.intact = waiting.intact;
+    Run {
+        replay: next,
+        have: 0,
+        going: false,
+    }
+}
 
 // Reads once, and goes through what was read.
 fn turn(buf: &mut [u8], out: &mut [u8], run: Run) -> Run

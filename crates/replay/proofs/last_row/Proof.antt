@@ -1,12 +1,12 @@
--- `buffer_rows::last_row` meets its contract.
+-- `replay::last_row` meets its contract.
 use mathlib.Core.Path.{refl, sym, _∙_}
 use native.Mathlib.Omega.{arith}
 use lib.ListN.{take}
 use lib.Seq.{length-take-le}
 use Rattle.stream.proofs.Lines.{row-answered, last-none, last-some}
 use borrow.Author.Needs.{needs}
-use Rattle.buffer_rows.proofs.last_row.Statement.{statement}
-use Rattle.buffer_rows.proofs.last_row.Tie as tie
+use Rattle.replay.proofs.last_row.Statement.{statement}
+use Rattle.replay.proofs.last_row.Tie as tie
 
 returns : tie.Need-returns
 returns c =
