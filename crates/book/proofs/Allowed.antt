@@ -141,7 +141,7 @@ allowed-mark b i p f w e =
 
 pub record CanIntraday (b : Book) : Type 0 where
   pub day : b .day ≤ finalDay
-  pub first : b .intraday ≡ false
+  pub first : b .«intraday_done» ≡ false
   pub marked : AllMarked b
 
 pub allowed-intraday : (b : Book) → verdictOf b event.Intraday ≡ Allowed → CanIntraday b

@@ -48,7 +48,7 @@ same-trade b c t day listed listing g =
 
 module _ (b : Book) (g : Good b) where
   -- ---- one series is changed that is not past its last day
-  module _ (i : ℕ) (lt : i < b .listed) (today : b .day ≤ seriesAt b i .listing .last) (s : Series)
+  module _ (i : ℕ) (lt : i < b .listed) (today : b .day ≤ seriesAt b i .listing .«last_day») (s : Series)
       (listing : s .listing ≡ seriesAt b i .listing) (good : GoodSeries (b .day) s) where
     each : (P : ℕ → Series → Type 0) → P i s → ((j : ℕ) → j ≢ i → P j (seriesAt b j)) → (j : ℕ) → P j (seriesAt (withSeries b i s) j)
     each P = each-set (b .series) i s noSeries P (omega (arith, lt, g .listed, g .series-long))
@@ -69,7 +69,7 @@ module _ (b : Book) (g : Good b) where
           series = each (λ j x. j < seriesRoom → GoodSeries (b .day) x) (λ _. good) (λ j _. g .series j);
           tick = λ j l. rw (same-listing j) (g .tick j l);
           idle =
-              each (λ j x. j < b .listed → x .listing .last < b .day → Idle x) (λ _ past. absurd (not-past (rw listing at past)))
+              each (λ j x. j < b .listed → x .listing .«last_day» < b .day → Idle x) (λ _ past. absurd (not-past (rw listing at past)))
               (λ j _. g .idle j);
           unlisted = each (λ j x. b .listed ≤ j → j < seriesRoom → x ≡ newSeries noListing) (λ le _. absurd (not-listed le)) (λ j _. g .unlisted j);
           blotter = λ k l. same-trade b (withSeries b i s) (tradeAt b k) refl (omega arith) (λ j _. same-listing j) (g .blotter k l);
@@ -80,7 +80,7 @@ module _ (b : Book) (g : Good b) where
           cash-balances = g .cash-balances;
         }
       where
-        not-past : seriesAt b i .listing .last < b .day → ⊥
+        not-past : seriesAt b i .listing .«last_day» < b .day → ⊥
         not-past l = omega (arith, today)
 
         not-listed : b .listed ≤ i → ⊥
@@ -110,8 +110,8 @@ booked b t =
       series = b .series;
       blotter = set (b .blotter) (b .trades) t;
       trades = b .trades + 1;
-      intraday = b .intraday;
-      paid = b .paid;
+      «intraday_done» = b .«intraday_done»;
+      «intraday_paid» = b .«intraday_paid»;
       cash = b .cash;
     }
 
@@ -164,7 +164,7 @@ good-trade b g i x y q p c =
     (c .room)
 
 -- ---- a listing
-pub good-list : (b : Book) → Good b → (l : Listing) → CanList b (l .strike) (l .tick) (l .last) → Good (listed b l)
+pub good-list : (b : Book) → Good b → (l : Listing) → CanList b (l .strike) (l .tick) (l .«last_day») → Good (listed b l)
 good-list b g l c =
     record {
       day = g .day;
@@ -178,7 +178,7 @@ good-list b g l c =
       tick =
           each (λ j x. j < b .listed + 1 → 0 < x .listing .tick) (λ _. c .terms .tick-least) (λ j ne lt. g .tick j (omega arith));
       idle =
-          each (λ j x. j < b .listed + 1 → x .listing .last < b .day → Idle x) (λ _ past. absurd (not-past past))
+          each (λ j x. j < b .listed + 1 → x .listing .«last_day» < b .day → Idle x) (λ _ past. absurd (not-past past))
           (λ j ne lt. g .idle j (omega arith));
       unlisted =
           each (λ j x. b .listed + 1 ≤ j → j < seriesRoom → x ≡ newSeries noListing) (λ le _. absurd (not-above le))
@@ -195,7 +195,7 @@ good-list b g l c =
         → (j : ℕ) → P j (seriesAt (listed b l) j)
     each P = each-set (b .series) (b .listed) (newSeries l) noSeries P (omega (arith, c .room, g .series-long))
 
-    not-past : l .last < b .day → ⊥
+    not-past : l .«last_day» < b .day → ⊥
     not-past past = omega (arith, c .terms .last-least)
 
     not-above : b .listed + 1 ≤ b .listed → ⊥

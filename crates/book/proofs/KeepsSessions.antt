@@ -90,14 +90,14 @@ module _ (b : Book) (g : Good b) where
             each (λ i s. GoodSeries (b .day) s) (λ i lt _. good-unmarked (b .day) (seriesAt b i) (g .series i lt)) (λ i lt _. g .series i lt);
         tick = λ i lt. rw (same-listing i (room i lt)) (g .tick i lt);
         idle = λ i lt.
-            each (λ i s. i < b .listed → s .listing .last < b .day → Idle s) (λ i _ l _ past. absurd (not-past i l past)) (λ i _ _. g .idle i) i
+            each (λ i s. i < b .listed → s .listing .«last_day» < b .day → Idle s) (λ i _ l _ past. absurd (not-past i l past)) (λ i _ _. g .idle i) i
             (room i lt) lt;
         unlisted = still-unlisted unmarked;
         blotter = λ k lt. same-trade b (afterIntraday b) (tradeAt b k) refl (omega arith) (λ i l. same-listing i (room i l)) (g .blotter k lt);
         paid = bounded-table accounts (intradayMoney b) (λ a _. intraday-within b g a);
         fresh = λ e. absurd (false-not-true (sym e));
         paid-balances = sum-table accounts (intradayMoney b) ∙ intraday-balances b g;
-        settled = by-account (λ a. Within (b .day * mostInADay) (cash (afterIntraday b) a -ℤ at (afterIntraday b .paid) a)) unchanged nobody;
+        settled = by-account (λ a. Within (b .day * mostInADay) (cash (afterIntraday b) a -ℤ at (afterIntraday b .«intraday_paid») a)) unchanged nobody;
         cash-balances = paid-into-balances (intradayMoney b) (intraday-balances b g);
       }
     where
@@ -108,16 +108,16 @@ module _ (b : Book) (g : Good b) where
       same-listing : (i : ℕ) → i < seriesRoom → seriesAt (afterIntraday b) i .listing ≡ seriesAt b i .listing
       same-listing = each (λ i s. s .listing ≡ seriesAt b i .listing) (λ _ _ _. refl) (λ _ _ _. refl)
 
-      not-past : (i : ℕ) → live b i ≡ true → seriesAt b i .listing .last < b .day → ⊥
+      not-past : (i : ℕ) → live b i ≡ true → seriesAt b i .listing .«last_day» < b .day → ⊥
       not-past i l past = omega (arith, live-yes b i l .today)
 
       -- cash without today's intraday payment is what it was before the session
-      unchanged : (a : ℕ) → a < accounts → Within (b .day * mostInADay) (cash (afterIntraday b) a -ℤ at (afterIntraday b .paid) a)
+      unchanged : (a : ℕ) → a < accounts → Within (b .day * mostInADay) (cash (afterIntraday b) a -ℤ at (afterIntraday b .«intraday_paid») a)
       unchanged a lt =
           rw (getD-table accounts (λ a. cash b a +ℤ intradayMoney b a) a (pos 0) lt, getD-table accounts (intradayMoney b) a (pos 0) lt, +ℤ-negℤ-cancel (cash b a) (intradayMoney b a))
           (rw (g .fresh (c .first) a, +ℤ-idr (cash b a)) at (g .settled a))
 
-      nobody : (a : ℕ) → accounts ≤ a → Within (b .day * mostInADay) (cash (afterIntraday b) a -ℤ at (afterIntraday b .paid) a)
+      nobody : (a : ℕ) → accounts ≤ a → Within (b .day * mostInADay) (cash (afterIntraday b) a -ℤ at (afterIntraday b .«intraday_paid») a)
       nobody a le =
           less-zero (cash (afterIntraday b) a) (past-table (intradayMoney b) a le)
           (rw (past-table (λ a. cash b a +ℤ intradayMoney b a) a le) (within-pos (omega arith)))
@@ -161,10 +161,10 @@ module _ (b : Book) (g : Good b) where
       none : (k : ℕ) → k < 0 → ⊥
       none k lt = omega arith
 
-      expired-before : (i : ℕ) → live b i ≡ false → i < b .listed → seriesAt b i .listing .last < b .day
-      expired-before i n l = by (decLt (seriesAt b i .listing .last) (b .day))
+      expired-before : (i : ℕ) → live b i ≡ false → i < b .listed → seriesAt b i .listing .«last_day» < b .day
+      expired-before i n l = by (decLt (seriesAt b i .listing .«last_day») (b .day))
         where
-          by : Dec (seriesAt b i .listing .last < b .day) → seriesAt b i .listing .last < b .day
+          by : Dec (seriesAt b i .listing .«last_day» < b .day) → seriesAt b i .listing .«last_day» < b .day
           by (yes past) = past
           by (no today) = absurd (false-not-true (sym n ∙ is-live b i (record { listed = l; today = omega arith })))
 

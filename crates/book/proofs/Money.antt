@@ -33,7 +33,7 @@ pub revalued-balances : (day : ℕ) (s : Series) → GoodSeries day s → (n : �
     → sumTo accounts (λ a. revaluedIn s a (n a)) ≡ pos 0
 revalued-balances day s g n h =
     let now = worth (s .mark .coefficient) (s .mark .option) in
-    let before = worth (s .mark .coefficient) (s .price) in
+    let before = worth (s .mark .coefficient) (s .«evening_price») in
     sum-sub accounts (λ a. n a *ℤ now) (λ a. at (s .opening) a *ℤ before)
     ∙ rw (sum-mulr accounts now n, sum-mulr accounts before (at (s .opening)), h, g .opening .balance, zero-*ℤ now, zero-*ℤ before) refl
 
@@ -103,21 +103,21 @@ module _ (b : Book) (g : Good b) where
   pub evening-balances : sumTo accounts (eveningMoney b) ≡ pos 0
   unfolding eveningMoney
   evening-balances =
-      sum-sub accounts (eveningMargin b) (at (b .paid)) ∙ rw (evening-margin-balances, g .paid-balances) refl
+      sum-sub accounts (eveningMargin b) (at (b .«intraday_paid»)) ∙ rw (evening-margin-balances, g .paid-balances) refl
 
   -- ---- cash
   pub cash-within : (a : ℕ) → Within ((b .day + 1) * mostInADay) (cash b a)
   cash-within a =
-      within-le (rw (-ℤ-+ℤ-cancel (cash b a) (at (b .paid) a)) at (within-add (g .settled a) (g .paid .each a))) (omega arith)
+      within-le (rw (-ℤ-+ℤ-cancel (cash b a) (at (b .«intraday_paid») a)) at (within-add (g .settled a) (g .paid .each a))) (omega arith)
 
   pub cash-bounded : Bounded 4000000000000000000 (b .cash)
   cash-bounded = record { each = λ a. within-le (cash-within a) (omega (arith, g .day)) }
 
   -- after the evening, cash is what the days' margins came to
-  pub evening-settles : (a : ℕ) → cash b a +ℤ eveningMoney b a ≡ (cash b a -ℤ at (b .paid) a) +ℤ eveningMargin b a
+  pub evening-settles : (a : ℕ) → cash b a +ℤ eveningMoney b a ≡ (cash b a -ℤ at (b .«intraday_paid») a) +ℤ eveningMargin b a
   unfolding eveningMoney
   evening-settles a =
-      rw (split (cash b a), split (at (b .paid) a), split (eveningMargin b a)) (simp ring (⊖-eq _ _ _ _ (omega arith)))
+      rw (split (cash b a), split (at (b .«intraday_paid») a), split (eveningMargin b a)) (simp ring (⊖-eq _ _ _ _ (omega arith)))
 
   pub settled-within : (a : ℕ) → Within ((b .day + 1) * mostInADay) (cash b a +ℤ eveningMoney b a)
   settled-within a = rw (evening-settles a) (within-le (within-add (g .settled a) (evening-margin-within a)) (omega arith))

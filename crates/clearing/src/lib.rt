@@ -26,7 +26,7 @@ pub fn empty() -> Book
         category: Category::American,
         strike: 0,
         tick: 0,
-        last: 0,
+        last_day: 0,
     };
     let blank = new_series(listing);
     let none = Trade {
@@ -42,8 +42,8 @@ pub fn empty() -> Book
         series: [blank; SERIES],
         blotter: [none; BLOTTER],
         trades: 0,
-        intraday: false,
-        paid: [0i64; ACCOUNTS],
+        intraday_done: false,
+        intraday_paid: [0i64; ACCOUNTS],
         cash: [0i64; ACCOUNTS],
     }
 }

@@ -14,7 +14,7 @@ pub fn new_series(listing: Listing) -> Series
     Series {
         listing: listing,
         mark: mark,
-        price: 0,
+        evening_price: 0,
         positions: [0i32; PLACES],
         opening: [0i32; PLACES],
         requests: [0u32; PLACES],

@@ -46,7 +46,7 @@ pub fn list(
         category: category,
         strike: strike as u32,
         tick: tick as u32,
-        last: last as u32,
+        last_day: last as u32,
     };
     let s = change::new_series(listing);
     book.series[n] = s;

@@ -19,7 +19,7 @@ pub fn mark_verdict(
 ) -> Verdict
     ensures { λ r. ⌜ r ≡ rule.markVerdict listing day option future «tick_value» ⌝ }
 {
-    if listing.last < day {
+    if listing.last_day < day {
         return Verdict::Refused(Refusal::Expired);
     }
     if MAX_OPTION_PRICE < option {

@@ -17,7 +17,7 @@ pub fn first_unmarked(book: Book) -> Found
             break Found::Nothing;
         }
         let s = book.series[i];
-        if book.day <= s.listing.last {
+        if book.day <= s.listing.last_day {
             if !s.mark.made {
                 break Found::At(i as u8);
             }

@@ -22,9 +22,9 @@ use Rattle.value.specs.Value.{coefficientOf, valueOf}
 abbrev pub outstanding : ℕ → Series
 outstanding n =
     record {
-      listing = record { option = Call; category = American; strike = 1700000; tick = 100; last = 1 };
+      listing = record { option = Call; category = American; strike = 1700000; tick = 100; «last_day» = 1 };
       mark = noMark;
-      price = 0;
+      «evening_price» = 0;
       positions = pos n ∷ negℤ (pos n) ∷ [];
       opening = [];
       requests = [];

@@ -30,7 +30,7 @@ pub fn exercise_verdict(
 ) -> Verdict
     ensures { λ r. ⌜ r ≡ rule.exerciseVerdict listing (now (positions .entry)) day account quantity ⌝ }
 {
-    if listing.last < day {
+    if listing.last_day < day {
         return Verdict::Refused(Refusal::Expired);
     }
     let a = account as usize;
@@ -38,7 +38,7 @@ pub fn exercise_verdict(
         return Verdict::Refused(Refusal::UnknownAccount);
     }
     let category = listing.category;
-    if too_early(category, day, listing.last) {
+    if too_early(category, day, listing.last_day) {
         return Verdict::Refused(Refusal::NotToday);
     }
     if (held(positions[a]) as u64) < quantity {
@@ -51,13 +51,13 @@ pub fn exercise_verdict(
 pub fn decline_verdict(listing: Listing, day: u32, account: u8) -> Verdict
     ensures { λ r. ⌜ r ≡ rule.declineVerdict listing day account ⌝ }
 {
-    if listing.last < day {
+    if listing.last_day < day {
         return Verdict::Refused(Refusal::Expired);
     }
     if ACCOUNTS <= account as usize {
         return Verdict::Refused(Refusal::UnknownAccount);
     }
-    if day < listing.last {
+    if day < listing.last_day {
         return Verdict::Refused(Refusal::NotToday);
     }
     Verdict::Allowed

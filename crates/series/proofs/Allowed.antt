@@ -72,7 +72,7 @@ unfolding passesLimit
 within-limit z e = record { abs = ltb-false maxPosition (natAbs z) e }
 
 pub record TradeAllowed (s : Series) (day x y q p : ℕ) : Type 0 where
-  pub live : day ≤ s .listing .last
+  pub live : day ≤ s .listing .«last_day»
   pub buyer : x < accounts
   pub seller : y < accounts
   pub apart : x ≢ y
@@ -95,7 +95,7 @@ trade-allowed s day x y q p e =
     let p8 = passed _ _ _ (p7 .rest) in
     let p9 = passed _ _ _ (p8 .rest) in
     let p10 = passed _ _ _ (p9 .rest) in record {
-      live = ltb-false (s .listing .last) day (p1 .failed);
+      live = ltb-false (s .listing .«last_day») day (p1 .failed);
       buyer = leb-false accounts x (p2 .failed);
       seller = leb-false accounts y (p3 .failed);
       apart = eqb-false x y (p4 .failed);
@@ -108,7 +108,7 @@ trade-allowed s day x y q p e =
     }
 
 pub record RequestAllowed (s : Series) (day a q : ℕ) : Type 0 where
-  pub live : day ≤ s .listing .last
+  pub live : day ≤ s .listing .«last_day»
   pub account : a < accounts
   pub held : q ≤ held (positionOf s a)
 
@@ -118,25 +118,25 @@ exercise-allowed s day a q e =
     let p2 = passed _ _ _ (p1 .rest) in
     let p3 = passed _ _ _ (p2 .rest) in
     let p4 = passed _ _ _ (p3 .rest) in record {
-      live = ltb-false (s .listing .last) day (p1 .failed);
+      live = ltb-false (s .listing .«last_day») day (p1 .failed);
       account = leb-false accounts a (p2 .failed);
       held = ltb-false (held (positionOf s a)) q (p4 .failed);
     }
 
 pub record DeclineAllowed (s : Series) (day a : ℕ) : Type 0 where
-  pub live : day ≤ s .listing .last
+  pub live : day ≤ s .listing .«last_day»
   pub account : a < accounts
 
 pub decline-allowed : (s : Series) (day a : ℕ) → declineVerdict (s .listing) day a ≡ Allowed → DeclineAllowed s day a
 decline-allowed s day a e =
     let p1 = passed _ _ _ e in
     let p2 = passed _ _ _ (p1 .rest) in record {
-      live = ltb-false (s .listing .last) day (p1 .failed);
+      live = ltb-false (s .listing .«last_day») day (p1 .failed);
       account = leb-false accounts a (p2 .failed);
     }
 
 pub record MarkAllowed (s : Series) (day p f w : ℕ) : Type 0 where
-  pub live : day ≤ s .listing .last
+  pub live : day ≤ s .listing .«last_day»
   pub option : p ≤ maxOptionPrice
   pub future : f ≤ maxFuturesPrice
   pub tick-value : w ≤ maxTickValue
@@ -151,7 +151,7 @@ mark-allowed s day p f w e =
     let p5 = passed _ _ _ (p4 .rest) in
     let p6 = passed _ _ _ (p5 .rest) in
     let p7 = passed _ _ _ (p6 .rest) in record {
-      live = ltb-false (s .listing .last) day (p1 .failed);
+      live = ltb-false (s .listing .«last_day») day (p1 .failed);
       option = ltb-false maxOptionPrice p (p2 .failed);
       future = ltb-false maxFuturesPrice f (p3 .failed);
       tick-value = ltb-false maxTickValue w (p5 .failed);

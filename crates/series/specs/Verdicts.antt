@@ -59,7 +59,7 @@ abbrev pub exerciseVerdict : Listing → List ℤ → ℕ → ℕ → ℕ → Ve
 exerciseVerdict l positions day a q =
     choose (pastLast l day) (Refused Expired)
     (choose (leb accounts a) (Refused UnknownAccount)
-    (choose (tooEarly (l .category) day (l .last)) (Refused NotToday)
+    (choose (tooEarly (l .category) day (l .«last_day»)) (Refused NotToday)
     (choose (ltb (held (positionIn positions a)) q) (Refused NotHeld)
     Allowed)))
 
@@ -68,7 +68,7 @@ abbrev pub declineVerdict : Listing → ℕ → ℕ → Verdict
 declineVerdict l day a =
     choose (pastLast l day) (Refused Expired)
     (choose (leb accounts a) (Refused UnknownAccount)
-    (choose (ltb day (l .last)) (Refused NotToday)
+    (choose (ltb day (l .«last_day»)) (Refused NotToday)
     Allowed))
 
 -- a mark of option price p, futures price f and tick value w: 3 expired, 7 price, 14 tick value (W, or c, outside 1 to 200,000,000)

@@ -42,12 +42,12 @@ fn revalue_series(money: [i64; ACCOUNTS], s: Series, next: Series, day: u32) -> 
     requires { ⌜ (Bounded 1000000000000000000 money) × (GoodSeries day s) × (Bounded maxPosition (next .positions)) ⌝ }
     ensures { λ r. ⌜ r ≡ choose (not (expired s day)) (table accounts (λ a. at money a +ℤ revaluedIn s a (positionOf next a))) money ⌝ }
 {
-    if s.listing.last < day {
+    if s.listing.last_day < day {
         return money;
     }
     let c = s.mark.coefficient;
     let now = value(c, s.mark.option);
-    let before = value(c, s.price);
+    let before = value(c, s.evening_price);
     let positions = next.positions;
     let opening = s.opening;
     revalue(money, positions, opening, now, before)

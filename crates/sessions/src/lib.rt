@@ -28,7 +28,7 @@ pub fn intraday(mut book: Book) -> Step
     if FINAL_DAY < book.day {
         return refused(book, Refusal::Finished);
     }
-    if book.intraday {
+    if book.intraday_done {
         return refused(book, Refusal::SecondIntraday);
     }
     if let Found::At(i) = first_unmarked(book) {
@@ -39,8 +39,8 @@ pub fn intraday(mut book: Book) -> Step
     let cash = book.cash;
     let paid = pay(cash, money);
     book.series = series;
-    book.intraday = true;
-    book.paid = money;
+    book.intraday_done = true;
+    book.intraday_paid = money;
     book.cash = paid;
     Step {
         answer: Answer::Done,
@@ -62,15 +62,15 @@ pub fn evening(mut book: Book) -> Step
     }
     let series = settle_all(book);
     let margin = variation_margin(book, series);
-    let before = book.paid;
+    let before = book.intraday_paid;
     let money = less(margin, before);
     let cash = book.cash;
     let paid = pay(cash, money);
     book.series = series;
     book.day = book.day + 1;
     book.trades = 0;
-    book.intraday = false;
-    book.paid = [0i64; ACCOUNTS];
+    book.intraday_done = false;
+    book.intraday_paid = [0i64; ACCOUNTS];
     book.cash = paid;
     Step {
         answer: Answer::Done,

@@ -43,7 +43,7 @@ pub fn settle(s: Series, day: u32) -> Series
 {
     let listing = s.listing;
     let option = listing.option;
-    let last = day == listing.last;
+    let last = day == listing.last_day;
     let fixing = Fixing {
         option: option,
         last: last,
@@ -62,7 +62,7 @@ pub fn settle(s: Series, day: u32) -> Series
     Series {
         listing: listing,
         mark: mark,
-        price: s.mark.option,
+        evening_price: s.mark.option,
         positions: positions,
         opening: positions,
         requests: [0u32; PLACES],

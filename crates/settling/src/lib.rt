@@ -21,7 +21,7 @@ ghost use Rattle.book.specs.Sessions.{changed};
 fn after_intraday(s: Series, day: u32) -> Series
     ensures { λ r. ⌜ r ≡ choose (not (expired s day)) (unmarked s) s ⌝ }
 {
-    if s.listing.last < day {
+    if s.listing.last_day < day {
         return s;
     }
     unmark(s)
@@ -32,7 +32,7 @@ fn after_evening(s: Series, day: u32) -> Series
     requires { ⌜ (GoodSeries day s) × (day ≤ finalDay) ⌝ }
     ensures { λ r. ⌜ r ≡ choose (not (expired s day)) (settled s day) s ⌝ }
 {
-    if s.listing.last < day {
+    if s.listing.last_day < day {
         return s;
     }
     settle(s, day)

@@ -34,7 +34,7 @@ pub fn trade_verdict(
     requires { ⌜ 0 < listing .tick ⌝ }
     ensures { λ r. ⌜ r ≡ rule.tradeVerdict listing (now (positions .entry)) day buyer seller quantity price ⌝ }
 {
-    if listing.last < day {
+    if listing.last_day < day {
         return Verdict::Refused(Refusal::Expired);
     }
     let x = buyer as usize;

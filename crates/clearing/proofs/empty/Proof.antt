@@ -13,11 +13,11 @@ use Rattle.clearing.proofs.empty.Tie as tie
 
 abbrev result : tie.After-new-series → Book
 result c =
-    record { day = 0; listed = 0; series = replicate 8 (c .new-series .result); blotter = replicate 256 noTrade; trades = 0; intraday = false; paid = noMoney; cash = noMoney }
+    record { day = 0; listed = 0; series = replicate 8 (c .new-series .result); blotter = replicate 256 noTrade; trades = 0; «intraday_done» = false; «intraday_paid» = noMoney; cash = noMoney }
 
 is-empty : (c : tie.After-new-series) → result c ≡ emptyBook
 is-empty c =
-    λ i. record { day = 0; listed = 0; series = replicate 8 (c .new-series .ensures i); blotter = replicate 256 noTrade; trades = 0; intraday = false; paid = noMoney; cash = noMoney }
+    λ i. record { day = 0; listed = 0; series = replicate 8 (c .new-series .ensures i); blotter = replicate 256 noTrade; trades = 0; «intraday_done» = false; «intraday_paid» = noMoney; cash = noMoney }
 
 new-series-requires : tie.Need-new-series-requires
 new-series-requires c κs = search needs

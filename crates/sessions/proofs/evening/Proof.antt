@@ -34,7 +34,7 @@ unfolding eveningMoney
 money c =
     let k = start (c .before .before .before .before) .args .book in
     c .less .ensures
-    ∙ rw (margin (c .before .before)) (table-ext accounts _ _ (λ a lt. ap (λ (z : ℤ). z -ℤ at (k .paid) a) (getD-table accounts (eveningMargin k) a (pos 0) lt)))
+    ∙ rw (margin (c .before .before)) (table-ext accounts _ _ (λ a lt. ap (λ (z : ℤ). z -ℤ at (k .«intraday_paid») a) (getD-table accounts (eveningMargin k) a (pos 0) lt)))
 
 cash : (c : tie.After-pay) → c .pay .result ≡ paidInto (start (c .before .before .before .before .before .before) .args .book .cash) (eveningMoney (start (c .before .before .before .before .before .before) .args .book))
 cash c =
@@ -102,8 +102,8 @@ returns-3 c =
         series = l .before .before .before .settle-all .ensures i;
         blotter = k .blotter;
         trades = 0;
-        intraday = false;
-        paid = noMoney;
+        «intraday_done» = false;
+        «intraday_paid» = noMoney;
         cash = cash (c .before .before) i;
       };
     })

@@ -87,8 +87,8 @@ returns-4 c =
         series = v .before .unmark-all .ensures i;
         blotter = k .blotter;
         trades = k .trades;
-        intraday = true;
-        paid = money v i;
+        «intraday_done» = true;
+        «intraday_paid» = money v i;
         cash = cash c i;
       };
     })

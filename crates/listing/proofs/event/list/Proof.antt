@@ -93,8 +93,8 @@ returns-4 c =
         series = set (k .series) (k .listed) (c .new-series .ensures i);
         blotter = k .blotter;
         trades = k .trades;
-        intraday = k .intraday;
-        paid = k .paid;
+        «intraday_done» = k .«intraday_done»;
+        «intraday_paid» = k .«intraday_paid»;
         cash = k .cash;
       };
     })

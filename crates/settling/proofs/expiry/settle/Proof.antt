@@ -41,7 +41,7 @@ returns c =
     λ i. record {
       listing = s .listing;
       mark = c .before .no-mark .ensures i;
-      price = s .mark .option;
+      «evening_price» = s .mark .option;
       positions = positions i;
       opening = positions i;
       requests = replicate places 0;
