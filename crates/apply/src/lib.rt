@@ -13,7 +13,6 @@ ghost use Prim.Native.Nat.{_≤_};
 ghost use Rattle.integer.specs.Bounds.{Bounded};
 ghost use Rattle.terms.specs.Bounds.{blotterRoom, maxPosition};
 ghost use Rattle.book.specs.Effects as rule;
-ghost use Rattle.book.specs.State.{nextRecord};
 
 // A trade moves the positions of buyer and seller.
 pub fn move_positions(positions: &mut [i32; PLACES], effect: Effect)
@@ -21,31 +20,31 @@ pub fn move_positions(positions: &mut [i32; PLACES], effect: Effect)
     ensures { λ r. ⌜ now (positions .exit) ≡ rule.positionsBy effect (now (positions .entry)) ⌝ }
 {
     match effect {
-        Effect::Traded(t) => trade(positions, t.buyer, t.seller, t.quantity),
+        Effect::Traded(t) => trade(positions, t),
         _ => {}
     }
 }
 
-// A request replaces the account's earlier one, a refusal sets it to 0.
+// A request replaces the account's earlier one, a decline sets it to 0.
 pub fn set_request(requests: &mut [u32; PLACES], effect: Effect)
     requires { ⌜ rule.Fits effect ⌝ }
     ensures { λ r. ⌜ now (requests .exit) ≡ rule.requestsBy effect (now (requests .entry)) ⌝ }
 {
     match effect {
-        Effect::Requested { account, quantity } => request(requests, account, quantity),
-        Effect::Declined { account } => request(requests, account, 0),
+        Effect::Requested(r) => request(requests, r.account, r.quantity as u32),
+        Effect::Declined(w) => request(requests, w.account, 0),
         _ => {}
     }
 }
 
-// A request lifts the account's refusal.
-pub fn set_refusal(declined: &mut [bool; PLACES], effect: Effect)
+// A request takes the account's decline back.
+pub fn set_decline(declined: &mut [bool; PLACES], effect: Effect)
     requires { ⌜ rule.Fits effect ⌝ }
-    ensures { λ r. ⌜ now (declined .exit) ≡ rule.refusalsBy effect (now (declined .entry)) ⌝ }
+    ensures { λ r. ⌜ now (declined .exit) ≡ rule.declinesBy effect (now (declined .entry)) ⌝ }
 {
     match effect {
-        Effect::Requested { account, .. } => decline(declined, account, false),
-        Effect::Declined { account } => decline(declined, account, true),
+        Effect::Requested(r) => decline(declined, r.account, false),
+        Effect::Declined(w) => decline(declined, w.account, true),
         _ => {}
     }
 }
@@ -62,7 +61,7 @@ pub fn mark(earlier: Mark, effect: Effect) -> Mark
 
 // The place of the blotter's next record, or of its last one where the blotter is full.
 pub fn next_record(trades: usize) -> usize
-    ensures { λ r. ⌜ r ≡ nextRecord trades ⌝ }
+    ensures { λ r. ⌜ r ≡ rule.nextRecord trades ⌝ }
 {
     if trades < BLOTTER {
         trades
@@ -72,7 +71,7 @@ pub fn next_record(trades: usize) -> usize
 }
 
 // That record: a trade joins the blotter.
-pub fn joined(standing: Trade, effect: Effect) -> Trade
+pub fn entry(standing: Trade, effect: Effect) -> Trade
     ensures { λ r. ⌜ r ≡ rule.recordBy effect standing ⌝ }
 {
     match effect {

@@ -1,47 +1,241 @@
 -- What an event that the book allows meets: the conditions under which it would have been refused all fail.
 use mathlib.Core.Path.{_≡_, refl}
+use mathlib.Core.Logic.{_≢_}
 use mathlib.Core.Bool.{Bool, true, false, _&&_, not}
-use Prim.Native.Nat.{ℕ, zero, suc, _+_, _≤_, _<_}
+use mathlib.Core.List as list
+use Prim.Native.Nat.{ℕ, zero, suc, _+_, _%_, _≤_, _<_}
 use native.Mathlib.Decide.{ℕ-discrete}
 use native.Mathlib.Omega.{arith}
-use borrow.Author.Tests.{ltb-false, leb-false, not-false}
+use borrow.Author.Tests.{ltb-false, leb-false, eqb-false, not-false}
+use lib.IntN.{ℤ, pos, natAbs, _+ℤ_, _-ℤ_}
 use Rattle.choice.specs.Choice.{choose}
-use Rattle.terms.specs.Bounds.{finalDay, seriesRoom, blotterRoom}
-use Rattle.terms.specs.declared.OptionType.{OptionType}
-use Rattle.terms.specs.declared.Category.{Category}
+use Rattle.exercise.specs.Exercise.{held}
+use Rattle.integer.specs.Bounds.{Within}
+use Rattle.terms.specs.Bounds.{accounts, seriesRoom, finalDay, blotterRoom, maxStrike, maxTick, maxOptionPrice, maxFuturesPrice, maxTickValue, maxQuantity, maxPosition}
+use Rattle.value.specs.Value.{coefficientOf}
+use Rattle.series.specs.Conditions.{passesLimit, tooEarly}
+use Rattle.series.specs.Series.{positionIn}
+use Rattle.series.specs.declared.event.NewSeries.{NewSeries}
+use Rattle.series.specs.declared.event.Deal.{Deal}
+use Rattle.series.specs.declared.event.Request.{Request}
+use Rattle.series.specs.declared.event.Waiver.{Waiver}
+use Rattle.series.specs.declared.event.Quote.{Quote}
+use Rattle.series.specs.declared.refusal.Refusal.{Refusal}
 use Rattle.series.specs.declared.refusal.Verdict.{Verdict}
-use Rattle.series.specs.declared.refusal.Verdict.the-variants.{Allowed}
-use Rattle.series.proofs.Allowed.{refused-not-allowed, passed, both, ListAllowed, list-allowed, TradeAllowed, trade-allowed, RequestAllowed, exercise-allowed, DeclineAllowed, decline-allowed, MarkAllowed, mark-allowed}
-use Rattle.book.specs.State.{seriesAt, live}
-use Rattle.book.specs.Verdicts.{unlessFinished, onSeries, lacksMark, firstFrom, firstUnmarked, needsMark, verdictOf}
+use Rattle.series.specs.declared.refusal.Verdict.the-variants.{Allowed, Refused}
+use Rattle.series.specs.declared.state.Listing.{Listing}
+use Rattle.book.specs.State.{seriesAt, live, todayOf}
+use Rattle.book.specs.Verdicts.{listVerdict, tradeVerdict, exerciseVerdict, declineVerdict, markVerdict, lacksMark, firstFrom, firstUnmarked, needsMark, verdictOf}
 use Rattle.book.specs.declared.state.Book.{Book}
-use Rattle.book.specs.declared.state.Event.the-variants as event
+use Rattle.book.specs.declared.state.Event.the-variants.{List, Trade, Exercise, Decline, Mark, Intraday, Evening}
 use Rattle.book.specs.declared.state.Found.{Found}
 use Rattle.book.specs.declared.state.Found.the-variants.{At, Nothing}
+use Rattle.book.specs.declared.state.Today.{Today}
 use Rattle.book.proofs.Live.{live-yes, false-not-true}
 
--- ---- the parts of a verdict
+pub refused-not-allowed : {why : Refusal} → Refused why ≡ Allowed → ⊥
+refused-not-allowed e = let z : _≡_ {A = ℕ} 0 1 = cc in omega arith
 
--- the book is not finished
-pub record Open (b : Book) (v : Verdict) : Type 0 where
-  pub day : b .day ≤ finalDay
+-- one condition of a chain that ends in Allowed: it fails, and the rest of the chain ends in Allowed
+record Passed (t : Bool) (v : Verdict) : Type 0 where
+  pub failed : t ≡ false
   pub rest : v ≡ Allowed
 
-pub unfinished : (b : Book) (v : Verdict) → unlessFinished (b .day) v ≡ Allowed → Open b v
-unfinished b v e = let p = passed _ _ _ e in record { day = ltb-false finalDay (b .day) (p .failed); rest = p .rest }
+passed : (t : Bool) (why : Refusal) (v : Verdict) → choose t (Refused why) v ≡ Allowed → Passed t v
+unfolding choose
+passed true why v e = absurd (refused-not-allowed e)
+passed false why v e = record { failed = refl; rest = e }
 
--- and series i is listed
-pub record Known (b : Book) (i : ℕ) (v : Verdict) : Type 0 where
-  pub day : b .day ≤ finalDay
-  pub listed : i < b .listed
-  pub rest : v ≡ Allowed
+-- ---- a listing
+pub record ListAllowed (t : Today) (n : NewSeries) : Type 0 where
+  pub day : t .day ≤ finalDay
+  pub strike-least : 1 ≤ n .strike
+  pub strike-most : n .strike ≤ maxStrike
+  pub tick-least : 1 ≤ n .tick
+  pub tick-most : n .tick ≤ maxTick
+  pub last-least : t .day ≤ n .«last_day»
+  pub last-most : n .«last_day» ≤ finalDay
+  pub room : t .listed < seriesRoom
 
-pub known : (b : Book) (i : ℕ) (v : Verdict) → onSeries (b .day) (b .listed) i v ≡ Allowed → Known b i v
-known b i v e =
-    let o = unfinished b _ e in
-    let p = passed _ _ _ (o .rest) in
-    record { day = o .day; listed = leb-false (b .listed) i (p .failed); rest = p .rest }
+pub list-allowed : (t : Today) (n : NewSeries) → listVerdict t n ≡ Allowed → ListAllowed t n
+list-allowed t n e =
+    let p1 = passed _ _ _ e in
+    let p2 = passed _ _ _ (p1 .rest) in
+    let p3 = passed _ _ _ (p2 .rest) in
+    let p4 = passed _ _ _ (p3 .rest) in
+    let p5 = passed _ _ _ (p4 .rest) in
+    let p6 = passed _ _ _ (p5 .rest) in
+    let p7 = passed _ _ _ (p6 .rest) in
+    let p8 = passed _ _ _ (p7 .rest) in record {
+      day = ltb-false finalDay (t .day) (p1 .failed);
+      strike-least = ltb-false (n .strike) 1 (p2 .failed);
+      strike-most = ltb-false maxStrike (n .strike) (p3 .failed);
+      tick-least = ltb-false (n .tick) 1 (p4 .failed);
+      tick-most = ltb-false maxTick (n .tick) (p5 .failed);
+      last-least = ltb-false (n .«last_day») (t .day) (p6 .failed);
+      last-most = ltb-false finalDay (n .«last_day») (p7 .failed);
+      room = leb-false seriesRoom (t .listed) (p8 .failed);
+    }
 
+-- ---- events on one series, of this listing and these positions
+within-limit : (z : ℤ) → passesLimit z ≡ false → Within maxPosition z
+unfolding passesLimit
+within-limit z e = record { abs = ltb-false maxPosition (natAbs z) e }
+
+pub record TradeAllowed (t : Today) (l : Listing) (positions : list.List ℤ) (d : Deal) : Type 0 where
+  pub day : t .day ≤ finalDay
+  pub listed : d .series < t .listed
+  pub live : t .day ≤ l .«last_day»
+  pub buyer : d .buyer < accounts
+  pub seller : d .seller < accounts
+  pub apart : d .buyer ≢ d .seller
+  pub least : 1 ≤ d .quantity
+  pub most : d .quantity ≤ maxQuantity
+  pub price : d .price ≤ maxOptionPrice
+  pub whole-ticks : d .price % l .tick ≡ 0
+  pub buyer-limit : Within maxPosition (positionIn positions (d .buyer) +ℤ pos (d .quantity))
+  pub seller-limit : Within maxPosition (positionIn positions (d .seller) -ℤ pos (d .quantity))
+  pub room : t .trades < blotterRoom
+
+pub trade-allowed : (t : Today) (l : Listing) (positions : list.List ℤ) (d : Deal) → tradeVerdict t l positions d ≡ Allowed → TradeAllowed t l positions d
+trade-allowed t l positions d e =
+    let p1 = passed _ _ _ e in
+    let p2 = passed _ _ _ (p1 .rest) in
+    let p3 = passed _ _ _ (p2 .rest) in
+    let p4 = passed _ _ _ (p3 .rest) in
+    let p5 = passed _ _ _ (p4 .rest) in
+    let p6 = passed _ _ _ (p5 .rest) in
+    let p7 = passed _ _ _ (p6 .rest) in
+    let p8 = passed _ _ _ (p7 .rest) in
+    let p9 = passed _ _ _ (p8 .rest) in
+    let p10 = passed _ _ _ (p9 .rest) in
+    let p11 = passed _ _ _ (p10 .rest) in
+    let p12 = passed _ _ _ (p11 .rest) in
+    let p13 = passed _ _ _ (p12 .rest) in record {
+      day = ltb-false finalDay (t .day) (p1 .failed);
+      listed = leb-false (t .listed) (d .series) (p2 .failed);
+      live = ltb-false (l .«last_day») (t .day) (p3 .failed);
+      buyer = leb-false accounts (d .buyer) (p4 .failed);
+      seller = leb-false accounts (d .seller) (p5 .failed);
+      apart = eqb-false (d .buyer) (d .seller) (p6 .failed);
+      least = ltb-false (d .quantity) 1 (p7 .failed);
+      most = ltb-false maxQuantity (d .quantity) (p8 .failed);
+      price = ltb-false maxOptionPrice (d .price) (p9 .failed);
+      whole-ticks = omega (arith, ltb-false 0 (d .price % l .tick) (p10 .failed));
+      buyer-limit = within-limit (positionIn positions (d .buyer) +ℤ pos (d .quantity)) (p11 .failed);
+      seller-limit = within-limit (positionIn positions (d .seller) -ℤ pos (d .quantity)) (p12 .failed);
+      room = leb-false blotterRoom (t .trades) (p13 .failed);
+    }
+
+pub record RequestAllowed (t : Today) (l : Listing) (positions : list.List ℤ) (r : Request) : Type 0 where
+  pub day : t .day ≤ finalDay
+  pub listed : r .series < t .listed
+  pub live : t .day ≤ l .«last_day»
+  pub account : r .account < accounts
+  pub in-time : tooEarly (l .category) (t .day) (l .«last_day») ≡ false
+  pub held : r .quantity ≤ held (positionIn positions (r .account))
+
+pub exercise-allowed : (t : Today) (l : Listing) (positions : list.List ℤ) (r : Request) → exerciseVerdict t l positions r ≡ Allowed
+    → RequestAllowed t l positions r
+exercise-allowed t l positions r e =
+    let p1 = passed _ _ _ e in
+    let p2 = passed _ _ _ (p1 .rest) in
+    let p3 = passed _ _ _ (p2 .rest) in
+    let p4 = passed _ _ _ (p3 .rest) in
+    let p5 = passed _ _ _ (p4 .rest) in
+    let p6 = passed _ _ _ (p5 .rest) in record {
+      day = ltb-false finalDay (t .day) (p1 .failed);
+      listed = leb-false (t .listed) (r .series) (p2 .failed);
+      live = ltb-false (l .«last_day») (t .day) (p3 .failed);
+      account = leb-false accounts (r .account) (p4 .failed);
+      in-time = p5 .failed;
+      held = ltb-false (held (positionIn positions (r .account))) (r .quantity) (p6 .failed);
+    }
+
+pub record DeclineAllowed (t : Today) (l : Listing) (w : Waiver) : Type 0 where
+  pub day : t .day ≤ finalDay
+  pub listed : w .series < t .listed
+  pub live : t .day ≤ l .«last_day»
+  pub account : w .account < accounts
+  pub in-time : l .«last_day» ≤ t .day
+
+pub decline-allowed : (t : Today) (l : Listing) (w : Waiver) → declineVerdict t l w ≡ Allowed → DeclineAllowed t l w
+decline-allowed t l w e =
+    let p1 = passed _ _ _ e in
+    let p2 = passed _ _ _ (p1 .rest) in
+    let p3 = passed _ _ _ (p2 .rest) in
+    let p4 = passed _ _ _ (p3 .rest) in
+    let p5 = passed _ _ _ (p4 .rest) in record {
+      day = ltb-false finalDay (t .day) (p1 .failed);
+      listed = leb-false (t .listed) (w .series) (p2 .failed);
+      live = ltb-false (l .«last_day») (t .day) (p3 .failed);
+      account = leb-false accounts (w .account) (p4 .failed);
+      in-time = ltb-false (t .day) (l .«last_day») (p5 .failed);
+    }
+
+pub record MarkAllowed (t : Today) (l : Listing) (q : Quote) : Type 0 where
+  pub day : t .day ≤ finalDay
+  pub listed : q .series < t .listed
+  pub live : t .day ≤ l .«last_day»
+  pub option : q .option ≤ maxOptionPrice
+  pub future : q .future ≤ maxFuturesPrice
+  pub tick-value-least : 1 ≤ q .«tick_value»
+  pub tick-value : q .«tick_value» ≤ maxTickValue
+  pub coefficient-least : 1 ≤ coefficientOf (q .«tick_value») (l .tick)
+  pub coefficient : coefficientOf (q .«tick_value») (l .tick) ≤ maxTickValue
+
+pub mark-allowed : (t : Today) (l : Listing) (q : Quote) → markVerdict t l q ≡ Allowed → MarkAllowed t l q
+mark-allowed t l q e =
+    let p1 = passed _ _ _ e in
+    let p2 = passed _ _ _ (p1 .rest) in
+    let p3 = passed _ _ _ (p2 .rest) in
+    let p4 = passed _ _ _ (p3 .rest) in
+    let p5 = passed _ _ _ (p4 .rest) in
+    let p6 = passed _ _ _ (p5 .rest) in
+    let p7 = passed _ _ _ (p6 .rest) in
+    let p8 = passed _ _ _ (p7 .rest) in
+    let p9 = passed _ _ _ (p8 .rest) in record {
+      day = ltb-false finalDay (t .day) (p1 .failed);
+      listed = leb-false (t .listed) (q .series) (p2 .failed);
+      live = ltb-false (l .«last_day») (t .day) (p3 .failed);
+      option = ltb-false maxOptionPrice (q .option) (p4 .failed);
+      future = ltb-false maxFuturesPrice (q .future) (p5 .failed);
+      tick-value-least = ltb-false (q .«tick_value») 1 (p6 .failed);
+      tick-value = ltb-false maxTickValue (q .«tick_value») (p7 .failed);
+      coefficient-least = ltb-false (coefficientOf (q .«tick_value») (l .tick)) 1 (p8 .failed);
+      coefficient = ltb-false maxTickValue (coefficientOf (q .«tick_value») (l .tick)) (p9 .failed);
+    }
+
+-- ---- the same in a book
+abbrev pub CanTrade : Book → Deal → Type 0
+CanTrade b d = TradeAllowed (todayOf b) (seriesAt b (d .series) .listing) (seriesAt b (d .series) .positions) d
+
+abbrev pub CanExercise : Book → Request → Type 0
+CanExercise b r = RequestAllowed (todayOf b) (seriesAt b (r .series) .listing) (seriesAt b (r .series) .positions) r
+
+abbrev pub CanDecline : Book → Waiver → Type 0
+CanDecline b w = DeclineAllowed (todayOf b) (seriesAt b (w .series) .listing) w
+
+abbrev pub CanMark : Book → Quote → Type 0
+CanMark b q = MarkAllowed (todayOf b) (seriesAt b (q .series) .listing) q
+
+module _ (b : Book) where
+  pub allowed-list : (n : NewSeries) → verdictOf b (List n) ≡ Allowed → ListAllowed (todayOf b) n
+  allowed-list n e = list-allowed (todayOf b) n e
+
+  pub allowed-trade : (d : Deal) → verdictOf b (Trade d) ≡ Allowed → CanTrade b d
+  allowed-trade d e = trade-allowed (todayOf b) (seriesAt b (d .series) .listing) (seriesAt b (d .series) .positions) d e
+
+  pub allowed-exercise : (r : Request) → verdictOf b (Exercise r) ≡ Allowed → CanExercise b r
+  allowed-exercise r e = exercise-allowed (todayOf b) (seriesAt b (r .series) .listing) (seriesAt b (r .series) .positions) r e
+
+  pub allowed-decline : (w : Waiver) → verdictOf b (Decline w) ≡ Allowed → CanDecline b w
+  allowed-decline w e = decline-allowed (todayOf b) (seriesAt b (w .series) .listing) w e
+
+  pub allowed-mark : (q : Quote) → verdictOf b (Mark q) ≡ Allowed → CanMark b q
+  allowed-mark q e = mark-allowed (todayOf b) (seriesAt b (q .series) .listing) q e
+
+-- ---- sessions
 -- every live series has its mark
 abbrev pub AllMarked : Book → Type 0
 AllMarked b = (i : ℕ) → live b i ≡ true → seriesAt b i .mark .made ≡ true
@@ -78,81 +272,22 @@ all-marked b e i l =
     marked-if (live b i) (seriesAt b i .mark .made)
     (none-lacks b (b .listed) 0 (none-found (firstUnmarked b) e) i (omega arith) (omega (arith, live-yes b i l .listed))) l
 
--- ---- the events
-pub record CanList (b : Book) (strike tick last : ℕ) : Type 0 where
-  pub day : b .day ≤ finalDay
-  pub terms : ListAllowed (b .day) strike tick last
-  pub room : b .listed < seriesRoom
-
-pub allowed-list : (b : Book) (option : OptionType) (category : Category) (strike tick last : ℕ)
-    → verdictOf b (event.List option category strike tick last) ≡ Allowed → CanList b strike tick last
-allowed-list b option category strike tick last e =
-    let o = unfinished b _ e in
-    let p = both _ _ (o .rest) in
-    let r = passed _ _ _ (p .second) in
-    record { day = o .day; terms = list-allowed (b .day) strike tick last (p .first); room = leb-false seriesRoom (b .listed) (r .failed) }
-
-pub record CanTrade (b : Book) (i x y q p : ℕ) : Type 0 where
-  pub day : b .day ≤ finalDay
-  pub listed : i < b .listed
-  pub terms : TradeAllowed (seriesAt b i) (b .day) x y q p
-  pub room : b .trades < blotterRoom
-
-pub allowed-trade : (b : Book) (i x y q p : ℕ) → verdictOf b (event.Trade i x y q p) ≡ Allowed → CanTrade b i x y q p
-allowed-trade b i x y q p e =
-    let k = known b i _ e in
-    let t = both _ _ (k .rest) in
-    let r = passed _ _ _ (t .second) in record {
-      day = k .day;
-      listed = k .listed;
-      terms = trade-allowed (seriesAt b i) (b .day) x y q p (t .first);
-      room = leb-false blotterRoom (b .trades) (r .failed);
-    }
-
-pub record CanExercise (b : Book) (i a q : ℕ) : Type 0 where
-  pub day : b .day ≤ finalDay
-  pub listed : i < b .listed
-  pub terms : RequestAllowed (seriesAt b i) (b .day) a q
-
-pub allowed-exercise : (b : Book) (i a q : ℕ) → verdictOf b (event.Exercise i a q) ≡ Allowed → CanExercise b i a q
-allowed-exercise b i a q e =
-    let k = known b i _ e in
-    record { day = k .day; listed = k .listed; terms = exercise-allowed (seriesAt b i) (b .day) a q (k .rest) }
-
-pub record CanDecline (b : Book) (i a : ℕ) : Type 0 where
-  pub day : b .day ≤ finalDay
-  pub listed : i < b .listed
-  pub terms : DeclineAllowed (seriesAt b i) (b .day) a
-
-pub allowed-decline : (b : Book) (i a : ℕ) → verdictOf b (event.Decline i a) ≡ Allowed → CanDecline b i a
-allowed-decline b i a e =
-    let k = known b i _ e in
-    record { day = k .day; listed = k .listed; terms = decline-allowed (seriesAt b i) (b .day) a (k .rest) }
-
-pub record CanMark (b : Book) (i p f w : ℕ) : Type 0 where
-  pub day : b .day ≤ finalDay
-  pub listed : i < b .listed
-  pub terms : MarkAllowed (seriesAt b i) (b .day) p f w
-
-pub allowed-mark : (b : Book) (i p f w : ℕ) → verdictOf b (event.Mark i p f w) ≡ Allowed → CanMark b i p f w
-allowed-mark b i p f w e =
-    let k = known b i _ e in
-    record { day = k .day; listed = k .listed; terms = mark-allowed (seriesAt b i) (b .day) p f w (k .rest) }
-
 pub record CanIntraday (b : Book) : Type 0 where
   pub day : b .day ≤ finalDay
   pub first : b .«intraday_done» ≡ false
   pub marked : AllMarked b
 
-pub allowed-intraday : (b : Book) → verdictOf b event.Intraday ≡ Allowed → CanIntraday b
+pub allowed-intraday : (b : Book) → verdictOf b Intraday ≡ Allowed → CanIntraday b
 allowed-intraday b e =
-    let o = unfinished b _ e in
-    let p = passed _ _ _ (o .rest) in
-    record { day = o .day; first = p .failed; marked = all-marked b (p .rest) }
+    let p1 = passed _ _ _ e in
+    let p2 = passed _ _ _ (p1 .rest) in
+    record { day = ltb-false finalDay (b .day) (p1 .failed); first = p2 .failed; marked = all-marked b (p2 .rest) }
 
 pub record CanEvening (b : Book) : Type 0 where
   pub day : b .day ≤ finalDay
   pub marked : AllMarked b
 
-pub allowed-evening : (b : Book) → verdictOf b event.Evening ≡ Allowed → CanEvening b
-allowed-evening b e = let o = unfinished b _ e in record { day = o .day; marked = all-marked b (o .rest) }
+pub allowed-evening : (b : Book) → verdictOf b Evening ≡ Allowed → CanEvening b
+allowed-evening b e =
+    let p1 = passed _ _ _ e in
+    record { day = ltb-false finalDay (b .day) (p1 .failed); marked = all-marked b (p1 .rest) }

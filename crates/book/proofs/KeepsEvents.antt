@@ -10,17 +10,21 @@ use lib.Seq.{getD-set-same, getD-set-other}
 use Rattle.margin.specs.Margin.{noTrade}
 use Rattle.margin.specs.declared.trade.Trade.{Trade}
 use Rattle.terms.specs.Bounds.{seriesRoom, blotterRoom}
-use Rattle.series.specs.Changes.{traded, requested, declinedBy, marked}
+use Rattle.series.specs.Changes.{listingOf, traded, requested, declinedBy, marked}
 use Rattle.series.specs.Good.{GoodSeries}
 use Rattle.series.specs.Series.{newSeries}
-use Rattle.series.specs.declared.state.Listing.{Listing}
+use Rattle.series.specs.declared.event.NewSeries.{NewSeries}
+use Rattle.series.specs.declared.event.Deal.{Deal}
+use Rattle.series.specs.declared.event.Request.{Request}
+use Rattle.series.specs.declared.event.Waiver.{Waiver}
+use Rattle.series.specs.declared.event.Quote.{Quote}
 use Rattle.series.specs.declared.state.Series.{Series}
-use Rattle.series.proofs.Keeps.{good-new, good-traded, good-requested, good-declined, good-marked}
+use Rattle.series.proofs.Keeps.{CanMove, good-new, good-traded, good-requested, good-declined, good-marked}
 use Rattle.book.specs.Good.{Good, GoodTrade, Idle}
-use Rattle.book.specs.State.{seriesAt, tradeAt, withSeries, noSeries, noListing}
-use Rattle.book.specs.Step.{listed, withTrade}
+use Rattle.book.specs.State.{seriesAt, tradeAt, todayOf, withSeries, withBlotter, noSeries, noListing}
+use Rattle.book.specs.Step.{listed, entryOf, withTrade}
 use Rattle.book.specs.declared.state.Book.{Book}
-use Rattle.book.proofs.Allowed.{CanList, CanTrade, CanExercise, CanDecline, CanMark}
+use Rattle.book.proofs.Allowed.{ListAllowed, CanTrade, CanExercise, CanDecline, CanMark}
 
 -- what holds of v at i and of all other elements of a list holds of each, once v is stored at i
 each-set : {A : Type 0} (l : List A) (i : ℕ) (v d : A) (P : ℕ → A → Type 0) → i < length l → P i v
@@ -86,38 +90,34 @@ module _ (b : Book) (g : Good b) where
         not-listed : b .listed ≤ i → ⊥
         not-listed l = omega (arith, lt)
 
-  pub good-request : (i a q : ℕ) → CanExercise b i a q → Good (withSeries b i (requested (seriesAt b i) a q))
-  good-request i a q c =
-      good-with-series i (c .listed) (c .terms .live) (requested (seriesAt b i) a q) refl
-      (good-requested (b .day) (seriesAt b i) (g .series i (omega (arith, c .listed, g .listed))) a q)
+  good-series : {i : ℕ} → i < b .listed → GoodSeries (b .day) (seriesAt b i)
+  good-series {i} lt = g .series i (omega (arith, lt, g .listed))
 
-  pub good-decline : (i a : ℕ) → CanDecline b i a → Good (withSeries b i (declinedBy (seriesAt b i) a))
-  good-decline i a c =
-      good-with-series i (c .listed) (c .terms .live) (declinedBy (seriesAt b i) a) refl
-      (good-declined (b .day) (seriesAt b i) (g .series i (omega (arith, c .listed, g .listed))) a)
+  pub good-request : (r : Request) → CanExercise b r
+      → Good (withSeries b (r .series) (requested (seriesAt b (r .series)) r))
+  good-request r c =
+      good-with-series (r .series) (c .listed) (c .live) (requested (seriesAt b (r .series)) r) refl
+      (good-requested (b .day) (seriesAt b (r .series)) (good-series (c .listed)) r)
 
-  pub good-mark : (i p f w : ℕ) → CanMark b i p f w → Good (withSeries b i (marked (seriesAt b i) p f w))
-  good-mark i p f w c =
-      good-with-series i (c .listed) (c .terms .live) (marked (seriesAt b i) p f w) refl
-      (good-marked (b .day) (seriesAt b i) (g .series i (omega (arith, c .listed, g .listed))) p f w (c .terms))
+  pub good-decline : (w : Waiver) → CanDecline b w
+      → Good (withSeries b (w .series) (declinedBy (seriesAt b (w .series)) w))
+  good-decline w c =
+      good-with-series (w .series) (c .listed) (c .live) (declinedBy (seriesAt b (w .series)) w) refl
+      (good-declined (b .day) (seriesAt b (w .series)) (good-series (c .listed)) w)
+
+  pub good-mark : (q : Quote) → CanMark b q
+      → Good (withSeries b (q .series) (marked (seriesAt b (q .series)) q))
+  good-mark q c =
+      good-with-series (q .series) (c .listed) (c .live) (marked (seriesAt b (q .series)) q) refl
+      (good-marked (b .day) (seriesAt b (q .series)) (good-series (c .listed)) q (c .option) (c .coefficient))
 
 -- ---- a trade: it moves the positions, then it joins the blotter
-booked : Book → Trade → Book
-booked b t =
-    record {
-      day = b .day;
-      listed = b .listed;
-      series = b .series;
-      blotter = set (b .blotter) (b .trades) t;
-      trades = b .trades + 1;
-      «intraday_done» = b .«intraday_done»;
-      «intraday_paid» = b .«intraday_paid»;
-      cash = b .cash;
-    }
+withEntry : Book → Trade → Book
+withEntry b t = withBlotter b (set (b .blotter) (b .trades) t) (b .trades + 1)
 
-good-booked : (b : Book) → Good b → (t : Trade) → GoodTrade b t → b .trades < blotterRoom → Good (booked b t)
-unfolding booked
-good-booked b g t w room =
+good-entry : (b : Book) → Good b → (t : Trade) → GoodTrade b t → b .trades < blotterRoom → Good (withEntry b t)
+unfolding withEntry
+good-entry b g t w room =
     record {
       day = g .day;
       listed = g .listed;
@@ -131,7 +131,7 @@ good-booked b g t w room =
       idle = g .idle;
       unlisted = g .unlisted;
       blotter =
-          each-set (b .blotter) (b .trades) t noTrade (λ k u. k < b .trades + 1 → GoodTrade (booked b t) u) (omega (arith, g .blotter-long))
+          each-set (b .blotter) (b .trades) t noTrade (λ k u. k < b .trades + 1 → GoodTrade (withEntry b t) u) (omega (arith, g .blotter-long))
           (λ _. again t w) (λ k ne lt. again (tradeAt b k) (g .blotter k (omega arith)));
       paid = g .paid;
       fresh = g .fresh;
@@ -140,32 +140,40 @@ good-booked b g t w room =
       cash-balances = g .cash-balances;
     }
   where
-    again : (u : Trade) → GoodTrade b u → GoodTrade (booked b t) u
-    again u = same-trade b (booked b t) u refl (omega arith) (λ i _. refl)
+    again : (u : Trade) → GoodTrade b u → GoodTrade (withEntry b t) u
+    again u = same-trade b (withEntry b t) u refl (omega arith) (λ i _. refl)
 
-pub good-trade : (b : Book) → Good b → (i x y q p : ℕ) → CanTrade b i x y q p
-    → Good (withTrade b (record { series = i; buyer = x; seller = y; quantity = q; price = p }))
-unfolding booked
-good-trade b g i x y q p c =
-    let t : Trade = record { series = i; buyer = x; seller = y; quantity = q; price = p } in
-    let s = traded (seriesAt b i) x y q in
-    let good = good-traded (b .day) (seriesAt b i) (g .series i (omega (arith, c .listed, g .listed))) x y q p (c .terms) in
-    good-booked (withSeries b i s) (good-with-series b g i (c .listed) (c .terms .live) s refl good) t
-    (same-trade b (withSeries b i s) t refl (omega arith) (λ j _. same-listing b g i (c .listed) (c .terms .live) s refl good j)
+pub good-trade : (b : Book) → Good b → (d : Deal)
+    → CanTrade b d → Good (withTrade b (entryOf d))
+unfolding withEntry
+good-trade b g d c =
+    let i = d .series in
+    let s = traded (seriesAt b i) (entryOf d) in
+    let moves : CanMove (seriesAt b i) (entryOf d) = record {
+      buyer = c .buyer;
+      seller = c .seller;
+      apart = c .apart;
+      buyer-limit = c .buyer-limit;
+      seller-limit = c .seller-limit;
+    } in
+    let good = good-traded (b .day) (seriesAt b i) (good-series b g (c .listed)) (entryOf d) moves in
+    good-entry (withSeries b i s) (good-with-series b g i (c .listed) (c .live) s refl good) (entryOf d)
+    (same-trade b (withSeries b i s) (entryOf d) refl (omega arith) (λ j _. same-listing b g i (c .listed) (c .live) s refl good j)
     (record {
       series = c .listed;
-      live = c .terms .live;
-      buyer = c .terms .buyer;
-      seller = c .terms .seller;
-      apart = c .terms .apart;
-      quantity = c .terms .most;
-      price = c .terms .price;
+      live = c .live;
+      buyer = c .buyer;
+      seller = c .seller;
+      apart = c .apart;
+      quantity = c .most;
+      price = c .price;
     }))
     (c .room)
 
 -- ---- a listing
-pub good-list : (b : Book) → Good b → (l : Listing) → CanList b (l .strike) (l .tick) (l .«last_day») → Good (listed b l)
-good-list b g l c =
+pub good-list : (b : Book) → Good b → (n : NewSeries) → ListAllowed (todayOf b) n → Good (listed b (listingOf n))
+good-list b g n c =
+    let l = listingOf n in
     record {
       day = g .day;
       listed = omega arith;
@@ -176,7 +184,7 @@ good-list b g l c =
       cash-long = g .cash-long;
       series = each (λ j x. j < seriesRoom → GoodSeries (b .day) x) (λ _. good-new (b .day) l) (λ j _. g .series j);
       tick =
-          each (λ j x. j < b .listed + 1 → 0 < x .listing .tick) (λ _. c .terms .tick-least) (λ j ne lt. g .tick j (omega arith));
+          each (λ j x. j < b .listed + 1 → 0 < x .listing .tick) (λ _. c .tick-least) (λ j ne lt. g .tick j (omega arith));
       idle =
           each (λ j x. j < b .listed + 1 → x .listing .«last_day» < b .day → Idle x) (λ _ past. absurd (not-past past))
           (λ j ne lt. g .idle j (omega arith));
@@ -191,12 +199,12 @@ good-list b g l c =
       cash-balances = g .cash-balances;
     }
   where
-    each : (P : ℕ → Series → Type 0) → P (b .listed) (newSeries l) → ((j : ℕ) → j ≢ b .listed → P j (seriesAt b j))
-        → (j : ℕ) → P j (seriesAt (listed b l) j)
-    each P = each-set (b .series) (b .listed) (newSeries l) noSeries P (omega (arith, c .room, g .series-long))
+    each : (P : ℕ → Series → Type 0) → P (b .listed) (newSeries (listingOf n)) → ((j : ℕ) → j ≢ b .listed → P j (seriesAt b j))
+        → (j : ℕ) → P j (seriesAt (listed b (listingOf n)) j)
+    each P = each-set (b .series) (b .listed) (newSeries (listingOf n)) noSeries P (omega (arith, c .room, g .series-long))
 
-    not-past : l .«last_day» < b .day → ⊥
-    not-past past = omega (arith, c .terms .last-least)
+    not-past : n .«last_day» < b .day → ⊥
+    not-past past = omega (arith, c .last-least)
 
     not-above : b .listed + 1 ≤ b .listed → ⊥
     not-above le = omega arith
@@ -204,5 +212,5 @@ good-list b g l c =
     not-below : b .listed < b .listed → ⊥
     not-below lt = omega arith
 
-    same-listing : (j : ℕ) → j < b .listed → seriesAt (listed b l) j .listing ≡ seriesAt b j .listing
+    same-listing : (j : ℕ) → j < b .listed → seriesAt (listed b (listingOf n)) j .listing ≡ seriesAt b j .listing
     same-listing = each (λ j x. j < b .listed → x .listing ≡ seriesAt b j .listing) (λ lt. absurd (not-below lt)) (λ j _ _. refl)

@@ -1,69 +1,110 @@
--- Under which conditions an event is refused (01, "Refusals"), in the order of their numbers.
+-- Under which conditions an event is refused (01, "Refusals"): for each event one chain, in the order of their numbers. "The lowest number
+-- that applies is the answer": the first condition of the chain that holds decides.
 use mathlib.Core.Bool.{Bool, _&&_, not}
 use mathlib.Core.List as list
-use Prim.Native.Nat.{ℕ, zero, suc}
-use lib.Dec.{ltb, leb}
-use lib.IntN.{ℤ}
+use Prim.Native.Nat.{ℕ, zero, suc, _%_}
+use lib.Dec.{ltb, leb, eqb}
+use lib.IntN.{ℤ, pos, _+ℤ_, _-ℤ_}
 use Rattle.choice.specs.Choice.{choose}
-use Rattle.terms.specs.Bounds.{finalDay, seriesRoom, blotterRoom}
-use Rattle.series.specs.Refusals.{_then_}
-use Rattle.series.specs.Verdicts.{listVerdict, tradeVerdict, exerciseVerdict, declineVerdict, markVerdict}
+use Rattle.exercise.specs.Exercise.{held}
+use Rattle.terms.specs.Bounds.{accounts, seriesRoom, finalDay, blotterRoom, maxStrike, maxTick, maxOptionPrice, maxFuturesPrice, maxTickValue, maxQuantity}
+use Rattle.value.specs.Value.{coefficientOf}
+use Rattle.series.specs.Conditions.{passesLimit, tooEarly}
+use Rattle.series.specs.Series.{pastLast, positionIn}
+use Rattle.series.specs.declared.event.NewSeries.{NewSeries}
+use Rattle.series.specs.declared.event.Deal.{Deal}
+use Rattle.series.specs.declared.event.Request.{Request}
+use Rattle.series.specs.declared.event.Waiver.{Waiver}
+use Rattle.series.specs.declared.event.Quote.{Quote}
 use Rattle.series.specs.declared.state.Listing.{Listing}
-use Rattle.series.specs.declared.refusal.Refusal.the-variants.{Finished, UnknownSeries, BlotterFull, SeriesFull, SecondIntraday, NoMark}
+use Rattle.series.specs.declared.refusal.Refusal.the-variants.{Finished, UnknownSeries, Expired, UnknownAccount, OwnTrade, Size, Price, PositionLimit, BlotterFull, Terms, SeriesFull, NotToday, NotHeld, TickValue, SecondIntraday, NoMark}
 use Rattle.series.specs.declared.refusal.Verdict.{Verdict}
 use Rattle.series.specs.declared.refusal.Verdict.the-variants.{Allowed, Refused}
-use Rattle.book.specs.State.{seriesAt, live}
+use Rattle.book.specs.State.{seriesAt, live, todayOf}
 use Rattle.book.specs.declared.state.Book.{Book}
 use Rattle.book.specs.declared.state.Event.{Event}
 use Rattle.book.specs.declared.state.Event.the-variants.{List, Trade, Exercise, Decline, Mark, Intraday, Evening}
 use Rattle.book.specs.declared.state.Found.{Found}
 use Rattle.book.specs.declared.state.Found.the-variants.{At, Nothing}
+use Rattle.book.specs.declared.state.Today.{Today}
 
 -- 1, finished: day 999's evening is over; every event
-abbrev pub unlessFinished : ℕ → Verdict → Verdict
-unlessFinished day v = choose (ltb finalDay day) (Refused Finished) v
+abbrev pub finished : Today → Bool
+finished t = ltb finalDay (t .day)
 
 -- 2, unknown series: number not listed
-abbrev pub onSeries : ℕ → ℕ → ℕ → Verdict → Verdict
-onSeries day listed i v = unlessFinished day (choose (leb listed i) (Refused UnknownSeries) v)
+abbrev pub unlisted : Today → ℕ → Bool
+unlisted t i = leb (t .listed) i
 
--- 9, blotter full: 256 trades stand today
-abbrev pub blotterVerdict : ℕ → Verdict
-blotterVerdict trades = choose (leb blotterRoom trades) (Refused BlotterFull) Allowed
+-- 4, unknown account: above 63
+abbrev pub unknown : ℕ → Bool
+unknown account = leb accounts account
 
--- 11, series full: 8 are listed
-abbrev pub roomVerdict : ℕ → Verdict
-roomVerdict listed = choose (leb seriesRoom listed) (Refused SeriesFull) Allowed
+-- a listing
+abbrev pub listVerdict : Today → NewSeries → Verdict
+listVerdict t n =
+    choose (finished t) (Refused Finished)
+    (choose (ltb (n .strike) 1) (Refused Terms)
+    (choose (ltb maxStrike (n .strike)) (Refused Terms)
+    (choose (ltb (n .tick) 1) (Refused Terms)
+    (choose (ltb maxTick (n .tick)) (Refused Terms)
+    (choose (ltb (n .«last_day») (t .day)) (Refused Terms)
+    (choose (ltb finalDay (n .«last_day»)) (Refused Terms)
+    (choose (leb seriesRoom (t .listed)) (Refused SeriesFull)
+    Allowed)))))))
 
--- the series that an event is on; an event on none has a number that is never listed
-abbrev pub seriesOf : Event → ℕ
-seriesOf (List option category strike tick last) = seriesRoom
-seriesOf (Trade i x y q p) = i
-seriesOf (Exercise i a q) = i
-seriesOf (Decline i a) = i
-seriesOf (Mark i p f w) = i
-seriesOf Intraday = seriesRoom
-seriesOf Evening = seriesRoom
+-- a trade in a series of this listing and these positions
+abbrev pub tradeVerdict : Today → Listing → list.List ℤ → Deal → Verdict
+tradeVerdict t l positions d =
+    choose (finished t) (Refused Finished)
+    (choose (unlisted t (d .series)) (Refused UnknownSeries)
+    (choose (pastLast l (t .day)) (Refused Expired)
+    (choose (unknown (d .buyer)) (Refused UnknownAccount)
+    (choose (unknown (d .seller)) (Refused UnknownAccount)
+    (choose (eqb (d .buyer) (d .seller)) (Refused OwnTrade)
+    (choose (ltb (d .quantity) 1) (Refused Size)
+    (choose (ltb maxQuantity (d .quantity)) (Refused Size)
+    (choose (ltb maxOptionPrice (d .price)) (Refused Price)
+    (choose (ltb 0 (d .price % l .tick)) (Refused Price)
+    (choose (passesLimit (positionIn positions (d .buyer) +ℤ pos (d .quantity))) (Refused PositionLimit)
+    (choose (passesLimit (positionIn positions (d .seller) -ℤ pos (d .quantity))) (Refused PositionLimit)
+    (choose (leb blotterRoom (t .trades)) (Refused BlotterFull)
+    Allowed))))))))))))
 
--- an event on one series, with the day, how many trades stand, and the listing and the positions of its series: the conditions of the
--- series, and of the blotter
-abbrev pub ownVerdict : ℕ → ℕ → Listing → list.List ℤ → Event → Verdict
-ownVerdict day trades l positions (Trade i x y q p) = tradeVerdict l positions day x y q p then blotterVerdict trades
-ownVerdict day trades l positions (Exercise i a q) = exerciseVerdict l positions day a q
-ownVerdict day trades l positions (Decline i a) = declineVerdict l day a
-ownVerdict day trades l positions (Mark i p f w) = markVerdict l day p f w
--- the others are on no series, and are not asked for here
-ownVerdict day trades l positions (List option category strike tick last) = Refused UnknownSeries
-ownVerdict day trades l positions Intraday = Refused UnknownSeries
-ownVerdict day trades l positions Evening = Refused UnknownSeries
+-- a request to exercise, "above the position, counted as 0 if short"
+abbrev pub exerciseVerdict : Today → Listing → list.List ℤ → Request → Verdict
+exerciseVerdict t l positions r =
+    choose (finished t) (Refused Finished)
+    (choose (unlisted t (r .series)) (Refused UnknownSeries)
+    (choose (pastLast l (t .day)) (Refused Expired)
+    (choose (unknown (r .account)) (Refused UnknownAccount)
+    (choose (tooEarly (l .category) (t .day) (l .«last_day»)) (Refused NotToday)
+    (choose (ltb (held (positionIn positions (r .account))) (r .quantity)) (Refused NotHeld)
+    Allowed)))))
 
--- and before them those of the whole book, of which n series are listed
-abbrev pub verdictIn : ℕ → ℕ → ℕ → Listing → list.List ℤ → Event → Verdict
-verdictIn day n trades l positions e = onSeries day n (seriesOf e) (ownVerdict day trades l positions e)
+-- a holder's refusal, "before the last day"
+abbrev pub declineVerdict : Today → Listing → Waiver → Verdict
+declineVerdict t l w =
+    choose (finished t) (Refused Finished)
+    (choose (unlisted t (w .series)) (Refused UnknownSeries)
+    (choose (pastLast l (t .day)) (Refused Expired)
+    (choose (unknown (w .account)) (Refused UnknownAccount)
+    (choose (ltb (t .day) (l .«last_day»)) (Refused NotToday)
+    Allowed))))
 
--- on series i of a book
-abbrev pub verdictAt : Book → ℕ → Event → Verdict
-verdictAt b i e = verdictIn (b .day) (b .listed) (b .trades) (seriesAt b i .listing) (seriesAt b i .positions) e
+-- a mark: "W, or c, outside 1 to 200,000,000"
+abbrev pub markVerdict : Today → Listing → Quote → Verdict
+markVerdict t l q =
+    choose (finished t) (Refused Finished)
+    (choose (unlisted t (q .series)) (Refused UnknownSeries)
+    (choose (pastLast l (t .day)) (Refused Expired)
+    (choose (ltb maxOptionPrice (q .option)) (Refused Price)
+    (choose (ltb maxFuturesPrice (q .future)) (Refused Price)
+    (choose (ltb (q .«tick_value») 1) (Refused TickValue)
+    (choose (ltb maxTickValue (q .«tick_value»)) (Refused TickValue)
+    (choose (ltb (coefficientOf (q .«tick_value») (l .tick)) 1) (Refused TickValue)
+    (choose (ltb maxTickValue (coefficientOf (q .«tick_value») (l .tick))) (Refused TickValue)
+    Allowed))))))))
 
 -- a live series lacks a mark
 abbrev pub lacksMark : Book → ℕ → Bool
@@ -82,12 +123,24 @@ unfoldable pub needsMark : Found → Verdict
 needsMark (At i) = Refused (NoMark i)
 needsMark Nothing = Allowed
 
--- every event: "The lowest number that applies is the answer."
+-- the two sessions
+abbrev pub intradayVerdict : Book → Verdict
+intradayVerdict b =
+    choose (finished (todayOf b)) (Refused Finished)
+    (choose (b .«intraday_done») (Refused SecondIntraday)
+    (needsMark (firstUnmarked b)))
+
+abbrev pub eveningVerdict : Book → Verdict
+eveningVerdict b =
+    choose (finished (todayOf b)) (Refused Finished)
+    (needsMark (firstUnmarked b))
+
+-- an event of a book; an event on one series with the listing and the positions of that series
 abbrev pub verdictOf : Book → Event → Verdict
-verdictOf b (List option category strike tick last) = unlessFinished (b .day) (listVerdict (b .day) strike tick last then roomVerdict (b .listed))
-verdictOf b (Trade i x y q p) = verdictAt b i (Trade i x y q p)
-verdictOf b (Exercise i a q) = verdictAt b i (Exercise i a q)
-verdictOf b (Decline i a) = verdictAt b i (Decline i a)
-verdictOf b (Mark i p f w) = verdictAt b i (Mark i p f w)
-verdictOf b Intraday = unlessFinished (b .day) (choose (b .«intraday_done») (Refused SecondIntraday) (needsMark (firstUnmarked b)))
-verdictOf b Evening = unlessFinished (b .day) (needsMark (firstUnmarked b))
+verdictOf b (List n) = listVerdict (todayOf b) n
+verdictOf b (Trade d) = tradeVerdict (todayOf b) (seriesAt b (d .series) .listing) (seriesAt b (d .series) .positions) d
+verdictOf b (Exercise r) = exerciseVerdict (todayOf b) (seriesAt b (r .series) .listing) (seriesAt b (r .series) .positions) r
+verdictOf b (Decline w) = declineVerdict (todayOf b) (seriesAt b (w .series) .listing) w
+verdictOf b (Mark q) = markVerdict (todayOf b) (seriesAt b (q .series) .listing) q
+verdictOf b Intraday = intradayVerdict b
+verdictOf b Evening = eveningVerdict b

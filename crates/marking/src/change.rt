@@ -1,12 +1,11 @@
 // The mark of a series: made, or dropped.
+use series::event::Quote;
 use series::state::Mark;
 use series::state::Series;
 ghost use mathlib.Core.Path.{_≡_};
-ghost use Prim.Native.Nat.{_≤_};
-ghost use Rattle.terms.specs.Bounds.{maxTickValue};
-ghost use Rattle.value.specs.Value.{coefficientOf};
 ghost use Rattle.series.specs.Series.{noMark};
 ghost use Rattle.series.specs.Changes as rule;
+ghost use Rattle.book.specs.Effects.{FittingQuote};
 
 // No mark stands.
 pub fn no_mark() -> Mark
@@ -20,16 +19,16 @@ pub fn no_mark() -> Mark
     }
 }
 
-// The mark of these prices and this tick value, for a series of this tick.
-pub fn mark(tick: u32, option: u32, future: u32, tick_value: u32) -> Mark
-    requires { ⌜ coefficientOf «tick_value» tick ≤ maxTickValue ⌝ }
-    ensures { λ r. ⌜ r ≡ rule.markOf tick option future «tick_value» ⌝ }
+// The mark of a quote, for a series of this tick.
+pub fn mark(tick: u32, quote: Quote) -> Mark
+    requires { ⌜ FittingQuote tick quote ⌝ }
+    ensures { λ r. ⌜ r ≡ rule.markOf tick quote ⌝ }
 {
     Mark {
         made: true,
-        option: option,
-        future: future,
-        coefficient: valuation::coefficient(tick_value, tick) as u32,
+        option: quote.option as u32,
+        future: quote.future as u32,
+        coefficient: valuation::coefficient(quote.tick_value as u32, tick) as u32,
     }
 }
 

@@ -18,15 +18,14 @@ use Rattle.exercise.specs.Exercise.{inTheMoney, half, automatic, exercised}
 use Rattle.integer.specs.Sum.{sumℕ, sumTo}
 use Rattle.integer.specs.Table.{at, table}
 use Rattle.margin.specs.Margin.{signed, cost, costIn}
-use Rattle.series.specs.Refusals.{_then_}
-use Rattle.series.specs.Verdicts.{passesLimit}
+use Rattle.series.specs.Conditions.{passesLimit}
 use Rattle.terms.specs.declared.Category.the-variants.{American}
 use Rattle.terms.specs.declared.OptionType.the-variants.{Call}
 use Rattle.value.specs.Rounding.{nearest}
 use Rattle.book.specs.Answers.{wasCarriedOut}
 use Rattle.book.specs.Sessions.{intradayMoney, eveningMargin, eveningMoney}
 use Rattle.book.specs.State.{emptyBook, futures, cash}
-use Rattle.book.specs.Step.{outcome, stepOf, run, after}
+use Rattle.book.specs.Step.{decided, stepOf, run, after}
 use Rattle.book.specs.Verdicts.{firstFrom, needsMark}
 use Rattle.book.specs.declared.state.Book.{Book}
 use Rattle.book.specs.declared.state.Event.{Event}
@@ -36,13 +35,24 @@ use Rattle.reckoning.specs.Demand.{eventAt, carriedAt, CarriedOut, Other
 use Rattle.reckoning.proofs.Demand.{demand-3}
 
 -- the list of 01, "Rows", with the option price p in the mark for its intraday session
+abbrev mark : ℕ → ℕ → Event
+mark option future = Mark (record { series = 0; option = option; future = future; «tick_value» = 100000 })
+
 abbrev pub example : ℕ → list.List Event
 example p =
-    List Call American 1700000 100 1 ∷ Trade 0 1 2 10 15000 ∷ Mark 0 p 1702000 100000 ∷ Intraday ∷ Mark 0 15500 1700000 100000 ∷ Evening ∷ Mark 0 0 1700000 100000 ∷ Evening ∷ []
+    List (record { option = Call; category = American; strike = 1700000; tick = 100; «last_day» = 1 })
+    ∷ Trade (record { series = 0; buyer = 1; seller = 2; quantity = 10; price = 15000 })
+    ∷ mark p 1702000
+    ∷ Intraday
+    ∷ mark 15500 1700000
+    ∷ Evening
+    ∷ mark 0 1700000
+    ∷ Evening
+    ∷ []
 
 -- what is opened to compute with the rules
 rules : Unit {0}
-unfolding choose sumTo sumℕ table signed cost costIn nearest inTheMoney half automatic exercised rank assigned exercise.shrunk exercise.futures exercise.remaining exercise.arisen _then_ passesLimit wasCarriedOut firstFrom needsMark intradayMoney eveningMargin eveningMoney outcome run
+unfolding choose sumTo sumℕ table signed cost costIn nearest inTheMoney half automatic exercised rank assigned exercise.shrunk exercise.futures exercise.remaining exercise.arisen passesLimit wasCarriedOut firstFrom needsMark intradayMoney eveningMargin eveningMoney decided run
 rules = tt
 
 -- a test at each number below n

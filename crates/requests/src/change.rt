@@ -1,4 +1,4 @@
-// The requests and refusals of a series, in place.
+// The requests and declines of a series, in place.
 use exercise::types::PLACES;
 ghost use mathlib.Core.Path.{_≡_};
 ghost use Prim.Native.Nat.{_<_};
@@ -15,11 +15,11 @@ pub fn request(requests: &mut [u32; PLACES], account: u8, quantity: u32)
     requests[a] = quantity;
 }
 
-// The account refuses exercise, or lifts its refusal.
-pub fn decline(declined: &mut [bool; PLACES], account: u8, refuses: bool)
+// The account declines exercise, or takes that back.
+pub fn decline(declined: &mut [bool; PLACES], account: u8, declines: bool)
     requires { ⌜ account < accounts ⌝ }
-    ensures { λ r. ⌜ now (declined .exit) ≡ set (now (declined .entry)) (placeOf account) refuses ⌝ }
+    ensures { λ r. ⌜ now (declined .exit) ≡ set (now (declined .entry)) (placeOf account) declines ⌝ }
 {
     let a = account as usize;
-    declined[a] = refuses;
+    declined[a] = declines;
 }

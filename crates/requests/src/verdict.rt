@@ -1,18 +1,23 @@
 // The conditions, tested in the order of the refusals' numbers.
+use book::state::Today;
 use exercise::types::PLACES;
 use holders::held;
+use series::event::Request;
+use series::event::Waiver;
 use series::refusal::Refusal;
 use series::refusal::Verdict;
 use series::state::Listing;
 use terms::Category;
 use terms::bounds::ACCOUNTS;
+use terms::bounds::FINAL_DAY;
 ghost use mathlib.Core.Path.{_≡_};
 ghost use Prim.Native.Nat.{_<_};
-ghost use Rattle.series.specs.Verdicts as rule;
+ghost use Rattle.series.specs.Conditions.{tooEarly};
+ghost use Rattle.book.specs.Verdicts as rule;
 
 // Is a request too early for the option's category?
 fn too_early(category: Category, day: u32, last: u32) -> bool
-    ensures { λ r. ⌜ r ≡ rule.tooEarly category day last ⌝ }
+    ensures { λ r. ⌜ r ≡ tooEarly category day last ⌝ }
 {
     match category {
         Category::American => false,
@@ -20,44 +25,55 @@ fn too_early(category: Category, day: u32, last: u32) -> bool
     }
 }
 
-// May this account request the exercise of this quantity?
+// May this request be made, in a series of this listing and these positions?
 pub fn exercise_verdict(
+    today: Today,
     listing: Listing,
     positions: &[i32; PLACES],
-    day: u32,
-    account: u8,
-    quantity: u64,
+    request: Request,
 ) -> Verdict
-    ensures { λ r. ⌜ r ≡ rule.exerciseVerdict listing (now (positions .entry)) day account quantity ⌝ }
+    ensures { λ r. ⌜ r ≡ rule.exerciseVerdict today listing (now (positions .entry)) request ⌝ }
 {
-    if listing.last_day < day {
+    if FINAL_DAY < today.day {
+        return Verdict::Refused(Refusal::Finished);
+    }
+    if today.listed <= request.series as usize {
+        return Verdict::Refused(Refusal::UnknownSeries);
+    }
+    if listing.last_day < today.day {
         return Verdict::Refused(Refusal::Expired);
     }
-    let a = account as usize;
+    let a = request.account as usize;
     if ACCOUNTS <= a {
         return Verdict::Refused(Refusal::UnknownAccount);
     }
     let category = listing.category;
-    if too_early(category, day, listing.last_day) {
+    if too_early(category, today.day, listing.last_day) {
         return Verdict::Refused(Refusal::NotToday);
     }
-    if (held(positions[a]) as u64) < quantity {
+    if (held(positions[a]) as u64) < request.quantity {
         return Verdict::Refused(Refusal::NotHeld);
     }
     Verdict::Allowed
 }
 
-// May this account refuse exercise?
-pub fn decline_verdict(listing: Listing, day: u32, account: u8) -> Verdict
-    ensures { λ r. ⌜ r ≡ rule.declineVerdict listing day account ⌝ }
+// May this account decline exercise?
+pub fn decline_verdict(today: Today, listing: Listing, waiver: Waiver) -> Verdict
+    ensures { λ r. ⌜ r ≡ rule.declineVerdict today listing waiver ⌝ }
 {
-    if listing.last_day < day {
+    if FINAL_DAY < today.day {
+        return Verdict::Refused(Refusal::Finished);
+    }
+    if today.listed <= waiver.series as usize {
+        return Verdict::Refused(Refusal::UnknownSeries);
+    }
+    if listing.last_day < today.day {
         return Verdict::Refused(Refusal::Expired);
     }
-    if ACCOUNTS <= account as usize {
+    if ACCOUNTS <= waiver.account as usize {
         return Verdict::Refused(Refusal::UnknownAccount);
     }
-    if day < listing.last_day {
+    if today.day < listing.last_day {
         return Verdict::Refused(Refusal::NotToday);
     }
     Verdict::Allowed

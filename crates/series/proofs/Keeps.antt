@@ -1,10 +1,11 @@
 -- What holds of every series: a new one has it, and every event that is carried out keeps it.
 use mathlib.Core.Path.{_≡_, refl, _∙_}
+use mathlib.Core.Logic.{_≢_}
 use mathlib.Core.Bool.{Bool, true, false}
 use mathlib.Core.List.{List}
 use Prim.Native.Nat.{ℕ, _+_, _*_, _≤_, _<_}
 use native.Mathlib.Omega.{arith}
-use lib.IntN.{ℤ, pos, _+ℤ_}
+use lib.IntN.{ℤ, pos, _+ℤ_, _-ℤ_}
 use lib.ListN.{length, length-set}
 use Rattle.choice.specs.Choice.{choose}
 use Rattle.exercise.specs.Places.{places, amount, flag}
@@ -16,13 +17,17 @@ use Rattle.integer.specs.Table.{at, table}
 use Rattle.integer.specs.Sum.{sumTo}
 use Rattle.integer.proofs.Sum.{sum-0, sum-add, sum-table, sum-zeros, sum-move-list}
 use Rattle.integer.proofs.Table.{length-table}
-use Rattle.terms.specs.Bounds.{maxPosition}
-use Rattle.series.specs.Changes.{withRequests, traded, requested, declinedBy, marked, unmarked, fixingOf, closing, newFutures, settled}
+use Rattle.margin.specs.declared.trade.Trade.{Trade}
+use Rattle.terms.specs.Bounds.{accounts, maxOptionPrice, maxTickValue, maxPosition}
+use Rattle.value.specs.Value.{coefficientOf}
+use Rattle.series.specs.Changes.{traded, requested, declinedBy, marked, unmarked, fixingOf, closing, newFutures, settled}
 use Rattle.series.specs.Good.{Balanced, GoodSeries}
-use Rattle.series.specs.Series.{zeros, newSeries, lastDay}
+use Rattle.series.specs.Series.{zeros, newSeries, withRequests, lastDay, positionOf}
+use Rattle.series.specs.declared.event.Request.{Request}
+use Rattle.series.specs.declared.event.Waiver.{Waiver}
+use Rattle.series.specs.declared.event.Quote.{Quote}
 use Rattle.series.specs.declared.state.Listing.{Listing}
 use Rattle.series.specs.declared.state.Series.{Series}
-use Rattle.series.proofs.Allowed.{TradeAllowed, MarkAllowed}
 
 -- ---- arrays of positions
 pub balanced-zeros : (B : ℕ) → Balanced B zeros
@@ -40,6 +45,14 @@ abbrev left : Series → ℕ → ℕ → ℤ
 left s day = remaining places (fixingOf s day) (at (s .positions)) (amount (s .requests)) (flag (s .declined))
 
 -- ---- the events
+-- a trade between two accounts of the book, after which both positions are within their bound
+pub record CanMove (s : Series) (t : Trade) : Type 0 where
+  pub buyer : t .buyer < accounts
+  pub seller : t .seller < accounts
+  pub apart : t .buyer ≢ t .seller
+  pub buyer-limit : Within maxPosition (positionOf s (t .buyer) +ℤ pos (t .quantity))
+  pub seller-limit : Within maxPosition (positionOf s (t .seller) -ℤ pos (t .quantity))
+
 pub good-new : (day : ℕ) (l : Listing) → GoodSeries day (newSeries l)
 good-new day l =
     record {
@@ -54,14 +67,14 @@ good-new day l =
     }
 
 module _ (day : ℕ) (s : Series) (g : GoodSeries day s) where
-  pub good-traded : (x y q p : ℕ) → TradeAllowed s day x y q p → GoodSeries day (traded s x y q)
-  good-traded x y q p t =
+  pub good-traded : (t : Trade) → CanMove s t → GoodSeries day (traded s t)
+  good-traded t c =
       record {
         positions = record {
           long = simp length-set (g .positions .long);
-          bounded = bounded-set y (bounded-set x (g .positions .bounded) (t .buyer-limit)) (t .seller-limit);
+          bounded = bounded-set (t .seller) (bounded-set (t .buyer) (g .positions .bounded) (c .buyer-limit)) (c .seller-limit);
           balance =
-              sum-move-list places (s .positions) x y (pos q) (g .positions .long) (t .buyer) (t .seller) (t .apart)
+              sum-move-list places (s .positions) (t .buyer) (t .seller) (pos (t .quantity)) (g .positions .long) (c .buyer) (c .seller) (c .apart)
               ∙ g .positions .balance;
         };
         opening = g .opening;
@@ -88,16 +101,18 @@ module _ (day : ℕ) (s : Series) (g : GoodSeries day s) where
         coefficient = g .coefficient;
       }
 
-  pub good-requested : (a q : ℕ) → GoodSeries day (requested s a q)
-  good-requested a q =
-      with-requests _ _ (length-set (s .requests) a q ∙ g .requests) (length-set (s .declined) a false ∙ g .declined)
+  pub good-requested : (r : Request) → GoodSeries day (requested s r)
+  good-requested r =
+      with-requests _ _ (length-set (s .requests) (r .account) (r .quantity) ∙ g .requests)
+      (length-set (s .declined) (r .account) false ∙ g .declined)
 
-  pub good-declined : (a : ℕ) → GoodSeries day (declinedBy s a)
-  good-declined a =
-      with-requests _ _ (length-set (s .requests) a 0 ∙ g .requests) (length-set (s .declined) a true ∙ g .declined)
+  pub good-declined : (w : Waiver) → GoodSeries day (declinedBy s w)
+  good-declined w =
+      with-requests _ _ (length-set (s .requests) (w .account) 0 ∙ g .requests) (length-set (s .declined) (w .account) true ∙ g .declined)
 
-  pub good-marked : (p f w : ℕ) → MarkAllowed s day p f w → GoodSeries day (marked s p f w)
-  good-marked p f w m =
+  pub good-marked : (q : Quote) → q .option ≤ maxOptionPrice → coefficientOf (q .«tick_value») (s .listing .tick) ≤ maxTickValue
+      → GoodSeries day (marked s q)
+  good-marked q option coefficient =
       record {
         positions = g .positions;
         opening = g .opening;
@@ -105,8 +120,8 @@ module _ (day : ℕ) (s : Series) (g : GoodSeries day s) where
         requests = g .requests;
         declined = g .declined;
         price = g .price;
-        option = m .option;
-        coefficient = m .coefficient;
+        option = option;
+        coefficient = coefficient;
       }
 
   pub good-unmarked : GoodSeries day (unmarked s)

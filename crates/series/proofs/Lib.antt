@@ -1,3 +1,2 @@
-pub mod Allowed
 pub mod Keeps
 pub mod Dropped

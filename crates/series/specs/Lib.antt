@@ -1,5 +1,5 @@
 pub mod Series
 pub mod Refusals
-pub mod Verdicts
+pub mod Conditions
 pub mod Changes
 pub mod Good

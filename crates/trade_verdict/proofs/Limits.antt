@@ -7,7 +7,7 @@ use lib.IntN.{ℤ, pos, negsuc}
 use lib.Signed.{ltZ}
 use borrow.Author.Tests.{ltb-true}
 use Rattle.integer.proofs.Order.{leb-iff}
-use Rattle.series.specs.Verdicts.{passesLimit}
+use Rattle.series.specs.Conditions.{passesLimit}
 
 pub limit-short : (p : ℤ) → ltZ p (pos 0) ≡ true → ltZ p (negsuc 99999) ≡ passesLimit p
 unfolding passesLimit

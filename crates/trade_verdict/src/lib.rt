@@ -1,19 +1,24 @@
 // Whether a trade may be made: the conditions, tested in the order of the refusals' numbers.
+use book::state::Today;
 use exercise::types::PLACES;
+use series::event::Deal;
 use series::refusal::Refusal;
 use series::refusal::Verdict;
 use series::state::Listing;
 use terms::bounds::ACCOUNTS;
+use terms::bounds::BLOTTER;
+use terms::bounds::FINAL_DAY;
 use terms::bounds::MAX_OPTION_PRICE;
 use terms::bounds::MAX_POSITION;
 use terms::bounds::MAX_QUANTITY;
 ghost use mathlib.Core.Path.{_≡_};
 ghost use Prim.Native.Nat.{_<_};
-ghost use Rattle.series.specs.Verdicts as rule;
+ghost use Rattle.series.specs.Conditions.{passesLimit};
+ghost use Rattle.book.specs.Verdicts as rule;
 
 // Is a position, without its sign, above its bound?
 fn passes_limit(position: i64) -> bool
-    ensures { λ r. ⌜ r ≡ rule.passesLimit position ⌝ }
+    ensures { λ r. ⌜ r ≡ passesLimit position ⌝ }
 {
     if position < 0 {
         return position < -MAX_POSITION;
@@ -21,24 +26,27 @@ fn passes_limit(position: i64) -> bool
     MAX_POSITION < position
 }
 
-// May these accounts trade this quantity at this price?
+// May this trade be made, in a series of this listing and these positions?
 pub fn trade_verdict(
+    today: Today,
     listing: Listing,
     positions: &[i32; PLACES],
-    day: u32,
-    buyer: u8,
-    seller: u8,
-    quantity: u64,
-    price: u64,
+    deal: Deal,
 ) -> Verdict
-    requires { ⌜ 0 < listing .tick ⌝ }
-    ensures { λ r. ⌜ r ≡ rule.tradeVerdict listing (now (positions .entry)) day buyer seller quantity price ⌝ }
+    requires { ⌜ (deal .series < today .listed → 0 < listing .tick) ⌝ }
+    ensures { λ r. ⌜ r ≡ rule.tradeVerdict today listing (now (positions .entry)) deal ⌝ }
 {
-    if listing.last_day < day {
+    if FINAL_DAY < today.day {
+        return Verdict::Refused(Refusal::Finished);
+    }
+    if today.listed <= deal.series as usize {
+        return Verdict::Refused(Refusal::UnknownSeries);
+    }
+    if listing.last_day < today.day {
         return Verdict::Refused(Refusal::Expired);
     }
-    let x = buyer as usize;
-    let y = seller as usize;
+    let x = deal.buyer as usize;
+    let y = deal.seller as usize;
     if ACCOUNTS <= x {
         return Verdict::Refused(Refusal::UnknownAccount);
     }
@@ -48,23 +56,26 @@ pub fn trade_verdict(
     if x == y {
         return Verdict::Refused(Refusal::OwnTrade);
     }
-    if quantity < 1 {
+    if deal.quantity < 1 {
         return Verdict::Refused(Refusal::Size);
     }
-    if MAX_QUANTITY < quantity {
+    if MAX_QUANTITY < deal.quantity {
         return Verdict::Refused(Refusal::Size);
     }
-    if MAX_OPTION_PRICE < price {
+    if MAX_OPTION_PRICE < deal.price {
         return Verdict::Refused(Refusal::Price);
     }
-    if 0 < price % listing.tick as u64 {
+    if 0 < deal.price % listing.tick as u64 {
         return Verdict::Refused(Refusal::Price);
     }
-    if passes_limit(positions[x] as i64 + quantity as i64) {
+    if passes_limit(positions[x] as i64 + deal.quantity as i64) {
         return Verdict::Refused(Refusal::PositionLimit);
     }
-    if passes_limit(positions[y] as i64 - quantity as i64) {
+    if passes_limit(positions[y] as i64 - deal.quantity as i64) {
         return Verdict::Refused(Refusal::PositionLimit);
+    }
+    if BLOTTER <= today.trades {
+        return Verdict::Refused(Refusal::BlotterFull);
     }
     Verdict::Allowed
 }

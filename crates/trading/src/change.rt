@@ -1,20 +1,20 @@
 // The positions of a series, in place.
 use exercise::types::PLACES;
+use margin::trade::Trade;
 ghost use mathlib.Core.Path.{_≡_};
-ghost use mathlib.Core.Logic.{_≢_};
-ghost use Prim.Native.Nat.{_≤_, _<_};
 ghost use Rattle.integer.specs.Bounds.{Bounded};
-ghost use Rattle.terms.specs.Bounds.{accounts, maxPosition, maxQuantity};
+ghost use Rattle.terms.specs.Bounds.{maxPosition};
 ghost use Rattle.series.specs.Changes as rule;
+ghost use Rattle.book.specs.Effects.{FittingTrade};
 
 // The buyer's position rises, the seller's falls.
-pub fn trade(positions: &mut [i32; PLACES], buyer: u8, seller: u8, quantity: u16)
-    requires { ⌜ (buyer < accounts) × (seller < accounts) × (buyer ≢ seller) × (quantity ≤ maxQuantity) × (Bounded maxPosition (now positions)) ⌝ }
-    ensures { λ r. ⌜ now (positions .exit) ≡ rule.moved (now (positions .entry)) buyer seller quantity ⌝ }
+pub fn trade(positions: &mut [i32; PLACES], t: Trade)
+    requires { ⌜ (FittingTrade t) × (Bounded maxPosition (now positions)) ⌝ }
+    ensures { λ r. ⌜ now (positions .exit) ≡ rule.moved (now (positions .entry)) t ⌝ }
 {
-    let x = buyer as usize;
-    let y = seller as usize;
-    let q = quantity as i32;
+    let x = t.buyer as usize;
+    let y = t.seller as usize;
+    let q = t.quantity as i32;
     positions[x] = positions[x] + q;
     positions[y] = positions[y] - q;
 }

@@ -1,6 +1,6 @@
 -- `effect::series_of` meets its contract.
 use mathlib.Core.Path.{sym, ap}
-use Rattle.book.specs.Verdicts.{seriesOf}
+use Rattle.book.specs.Effects.{seriesOf}
 use borrow.Author.Needs.{needs}
 use Rattle.effect.proofs.series_of.Statement.{statement}
 use Rattle.effect.proofs.series_of.Tie as tie
@@ -42,7 +42,7 @@ returns : tie.Need-returns
 returns c = search needs
 
 returns-2 : tie.Need-returns-2
-returns-2 c = ap seriesOf (sym (c .before .event .given .1))
+returns-2 c = ap seriesOf (sym (c .before .before .event .given .1))
 
 returns-3 : tie.Need-returns-3
 returns-3 c = search needs
@@ -51,7 +51,7 @@ returns-4 : tie.Need-returns-4
 returns-4 c = search needs
 
 returns-5 : tie.Need-returns-5
-returns-5 c = ap seriesOf (sym (c .before .event4 .given .1))
+returns-5 c = ap seriesOf (sym (c .before .before .event4 .given .1))
 
 returns-6 : tie.Need-returns-6
 returns-6 c = search needs

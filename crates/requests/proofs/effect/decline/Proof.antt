@@ -1,7 +1,7 @@
--- `requests::effect::decline` meets its contract: the effect by the verdict of the series.
+-- `requests::effect::decline` meets its contract: the effect by the verdict.
 use mathlib.Core.Path.{refl}
 use Rattle.book.proofs.Effects.{effect-refused, effect-allowed}
-use Rattle.book.proofs.Outcome.{verdict-is}
+use Rattle.book.proofs.Decided.{verdict-is}
 use borrow.Author.Needs.{needs}
 use Rattle.requests.proofs.effect.decline.Statement.{statement}
 use Rattle.requests.proofs.effect.decline.Tie as tie

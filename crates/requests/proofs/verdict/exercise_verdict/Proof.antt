@@ -10,20 +10,35 @@ use Rattle.requests.proofs.verdict.exercise_verdict.Statement.{statemen
 use Rattle.requests.proofs.verdict.exercise_verdict.Tie as tie
 
 -- what the call gave, of the position itself
-gave : (c : tie.After-held) → c .held .result ≡ held (at (c .before .before .before .before .before .before .before .args .positions .now) (c .before .before .before .before .before .before .before .args .account))
+abbrev start : tie.After-held → tie.Start
+start c = c .before .before .before .before .before .before .before .before .before .before .before .before .before .before
+
+gave : (c : tie.After-held) → c .held .result ≡ held (at (start c .args .positions .now) (start c .args .request .account))
 gave c = rw (any w32 (record { sfits = c .before .held-arg .given }) .is) at (c .held .ensures)
 
 returns : tie.Need-returns
-returns c = search (hit, past, tests) depth 24
+returns c = search (hit, past, tests) depth 28
+
+cast-if2 : tie.Need-cast-if2
+cast-if2 c = search needs
 
 returns-2 : tie.Need-returns-2
-returns-2 c = search (hit, past, tests) depth 24
+returns-2 c = search (hit, past, tests) depth 28
+
+returns-3 : tie.Need-returns-3
+returns-3 c = search (hit, past, tests) depth 28
+
+cast-a : tie.Need-cast-a
+cast-a c = search needs
+
+returns-4 : tie.Need-returns-4
+returns-4 c = search (hit, past, tests) depth 28
 
 too-early-requires : tie.Need-too-early-requires
 too-early-requires c κs = search needs
 
-returns-3 : tie.Need-returns-3
-returns-3 c = rw (← c .before .too-early .ensures) (search (hit, past, tests) depth 24)
+returns-5 : tie.Need-returns-5
+returns-5 c = rw (← c .before .too-early .ensures) (search (hit, past, tests) depth 28)
 
 mul-held : tie.Need-mul-held
 mul-held c = search needs
@@ -34,26 +49,30 @@ element-copy-out-held c = search needs
 held-requires : tie.Need-held-requires
 held-requires c κs = search needs
 
-cast-if4 : tie.Need-cast-if4
-cast-if4 c = search needs
+cast-if6 : tie.Need-cast-if6
+cast-if6 c = search needs
 
-returns-4 : tie.Need-returns-4
-returns-4 c = rw (← c .before .before .before .before .too-early .ensures, ← gave (c .before)) (search (hit, past, tests) depth 24)
+returns-6 : tie.Need-returns-6
+returns-6 c = rw (← c .before .before .before .before .before .too-early .ensures, ← gave (c .before .before)) (search (hit, past, tests) depth 28)
 
-returns-5 : tie.Need-returns-5
-returns-5 c = rw (← c .before .before .before .before .too-early .ensures, ← gave (c .before)) (search (hit, past, tests) depth 24)
+returns-7 : tie.Need-returns-7
+returns-7 c = rw (← c .before .before .before .before .before .too-early .ensures, ← gave (c .before .before)) (search (hit, past, tests) depth 28)
 
 pub exercise-verdict-spec : {M : Type 1} → statement M
 exercise-verdict-spec =
     tie.close
     (tie.spec
     returns
+    cast-if2
     returns-2
-    too-early-requires
     returns-3
+    cast-a
+    returns-4
+    too-early-requires
+    returns-5
     mul-held
     element-copy-out-held
     held-requires
-    cast-if4
-    returns-4
-    returns-5)
+    cast-if6
+    returns-6
+    returns-7)

@@ -1,5 +1,5 @@
 -- `requests::verdict::too_early` meets its contract.
-use Rattle.series.specs.Verdicts.{tooEarly}
+use Rattle.series.specs.Conditions.{tooEarly}
 use borrow.Author.Needs.{needs}
 use Rattle.requests.proofs.verdict.too_early.Statement.{statement}
 use Rattle.requests.proofs.verdict.too_early.Tie as tie

@@ -7,8 +7,14 @@ use Rattle.trading.proofs.change.trade.Statement.{statement}
 use Rattle.trading.proofs.change.trade.Tie as tie
 
 module _ (c : tie.Start) where
-  abbrev moved : Reads 1000 (pos (c .args .quantity))
-  moved = nat w32 (c .pre .3) tt
+  abbrev moved : Reads 1000 (pos (c .args .t .quantity))
+  moved = nat w32 (c .pre .0 .quantity) tt
+
+cast-x : tie.Need-cast-x
+cast-x c = search needs
+
+cast-y : tie.Need-cast-y
+cast-y c = search needs
 
 cast-q : tie.Need-cast-q
 cast-q c = search needs
@@ -21,8 +27,8 @@ element-copy-out-positions c = search needs
 
 add-positions : tie.Need-add-positions
 add-positions c =
-    let b = c .before in
-    fits w32 (more w32 (b .args .positions .now) (b .args .buyer) (b .args .seller) (b .pre .2) (b .pre .4) (moved b) tt tt) tt
+    let b = c .before .before .before .before in
+    fits w32 (more w32 (b .args .positions .now) (b .args .t .buyer) (b .args .t .seller) (b .pre .0 .apart) (b .pre .1) (moved b) tt tt) tt
 
 mul-positions-2 : tie.Need-mul-positions-2
 mul-positions-2 c = search needs
@@ -38,24 +44,26 @@ element-copy-out-positions-2 c = search needs
 
 sub-positions : tie.Need-sub-positions
 sub-positions c =
-    let b = c .before .before in
-    fits w32 (fewer w32 (b .args .positions .now) (b .args .buyer) (b .args .seller) (b .pre .2) (b .pre .4) (moved b) tt tt) tt
+    let b = c .before .before .before .before .before in
+    fits w32 (fewer w32 (b .args .positions .now) (b .args .t .buyer) (b .args .t .seller) (b .pre .0 .apart) (b .pre .1) (moved b) tt tt) tt
 
-mul-t13 : tie.Need-mul-t13
-mul-t13 c = search needs
+mul-t11 : tie.Need-mul-t11
+mul-t11 c = search needs
 
 element-set-from-positions-2 : tie.Need-element-set-from-positions-2
 element-set-from-positions-2 c = search needs
 
 returns : tie.Need-returns
 returns c =
-    let b = c .before .before in
-    moved-is w32 (b .args .positions .now) (b .args .buyer) (b .args .seller) (b .pre .2) (b .pre .4) (moved b) tt tt
+    let b = c .before .before .before .before .before in
+    moved-is w32 (b .args .positions .now) (b .args .t .buyer) (b .args .t .seller) (b .pre .0 .apart) (b .pre .1) (moved b) tt tt
 
 pub trade-spec : {M : Type 1} → statement M
 trade-spec =
     tie.close
     (tie.spec
+    cast-x
+    cast-y
     cast-q
     mul-positions
     element-copy-out-positions
@@ -65,6 +73,6 @@ trade-spec =
     mul-positions-3
     element-copy-out-positions-2
     sub-positions
-    mul-t13
+    mul-t11
     element-set-from-positions-2
     returns)
