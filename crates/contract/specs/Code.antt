@@ -5,6 +5,7 @@ use mathlib.Core.List.{List, [], _∷_, _++_}
 use lib.ListN.{length, take, replicate}
 use lib.Dec.{ltb, eqb}
 use Rattle.choice.specs.Choice.{choose}
+use Rattle.terms.specs.Refusals as no
 use Rattle.decimal.specs.Scan.{onMark, byteAt}
 use Rattle.contract.specs.Future.{FutureCode, futureAt}
 use Rattle.contract.specs.Date.{TwoDigitsEach, dateVerdict, dateText, dateAt, onDate}
@@ -23,9 +24,9 @@ use Rattle.contract.specs.declared.types.LayoutRead.the-variants.{Laid, 
 
 -- 01, "Refusals": the number of each
 unfoldable pub number : Refusal → ℕ
-number Layout = 17
-number NoDate = 18
-number StrikeText = 19
+number Layout = no.code
+number NoDate = no.date
+number StrikeText = no.strikeText
 
 -- the text of a futures code and the other terms; M is 77
 abbrev pub codeText : List ℕ → Terms → List ℕ
