@@ -5,7 +5,7 @@ use contract::types::Refusal;
 use contract::types::Terms;
 use contract::types::Verdict;
 use contract::types::Written;
-use decimal::Mark;
+use decimal::Scanned;
 ghost use mathlib.Core.Path.{_≡_};
 ghost use Rattle.contract.specs.Code.{inOrder, verdictOf, readCode, futureOf, termsVerdict, writeVerdict, written};
 
@@ -73,7 +73,7 @@ fn terms_verdict(terms: Terms) -> Verdict
 fn write_verdict(future: &[u8], terms: Terms) -> Verdict
     ensures { λ r. ⌜ r ≡ writeVerdict (now (future .entry)) terms ⌝ }
 {
-    let Mark::Next(n) = code_fields::future::leading(future) else {
+    let Scanned::Next(n) = code_fields::future::leading(future) else {
         return Verdict::Refused(Refusal::Layout);
     };
     if n != future.len() {

@@ -5,7 +5,7 @@ use contract::types::KindRead;
 use contract::types::LayoutRead;
 use contract::types::StrikeRead;
 use contract::types::Terms;
-use decimal::Mark;
+use decimal::Scanned;
 ghost use mathlib.Core.Path.{_≡_};
 ghost use mathlib.Core.List.{_∷_, _++_};
 ghost use Prim.Native.Nat.{_+_, _≤_};
@@ -18,10 +18,10 @@ ghost use Rattle.contract.specs.Date.{TwoDigitsEach, dateText};
 pub fn fields(s: &[u8]) -> LayoutRead
     ensures { λ r. ⌜ r ≡ layoutAt (now (s .entry)) ⌝ }
 {
-    let Mark::Next(future) = code_fields::future::leading(s) else {
+    let Scanned::Next(future) = code_fields::future::leading(s) else {
         return LayoutRead::NoLayout;
     };
-    let Mark::Next(a) = scan::expect(s, future, b'M') else {
+    let Scanned::Next(a) = scan::expect(s, future, b'M') else {
         return LayoutRead::NoLayout;
     };
     let DateRead::Dated { date, next: b } = date::digits(s, a) else {

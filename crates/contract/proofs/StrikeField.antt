@@ -22,13 +22,13 @@ use Rattle.decimal.proofs.Digits.{digit-of, digit-byte, digit-in}
 use Rattle.decimal.proofs.Reading.{capped-value, capped-none, capped-most}
 use Rattle.decimal.proofs.Numerals.{NoDigit, end-no-digit, byte-no-digit, after-numeral, numeral-read, numeral-text, length-some, length-below}
 use Rattle.decimal.proofs.Putting.{then}
-use Rattle.decimal.specs.Scan.{onMark, byteAt}
+use Rattle.decimal.specs.Scan.{onScanned, byteAt}
 use Rattle.contract.specs.Strike.{hundredthsText, strikeText, fractionAt, hundredthsAt, onHundredths, counted, strikeAt, onStrike}
 use Rattle.contract.specs.declared.types.HundredthsRead.{HundredthsRead}
 use Rattle.contract.specs.declared.types.HundredthsRead.the-variants.{Hundredths, NoHundredths}
 use Rattle.contract.specs.declared.types.StrikeRead.{StrikeRead}
 use Rattle.contract.specs.declared.types.StrikeRead.the-variants.{Strike, NoStrike}
-use Rattle.contract.proofs.Scanning.{after-mark, byte-read, byte-text}
+use Rattle.contract.proofs.Scanning.{after-scanned, byte-read, byte-text}
 
 -- what follows the strike, by what its reader answered
 module _ {A : Type 0} (x : A) (k : ℕ → A) (r m : StrikeRead) where
@@ -156,17 +156,17 @@ hundredths-text s at f e = by-end (eqb at (length s)) refl e
   where
     by-end : (t : Bool) →
         eqb at (length s) ≡ t →
-        choose t (Hundredths 0) (onMark (byteAt s at 46) NoHundredths (λ i. fractionAt s i)) ≡ Hundredths f →
+        choose t (Hundredths 0) (onScanned (byteAt s at 46) NoHundredths (λ i. fractionAt s i)) ≡ Hundredths f →
         (f < 100) × (drop at s ≡ hundredthsText f)
     by-end true g e =
         let z : 0 ≡ f = cc in
         (omega arith, rw (← z, eqb-true at (length s) g, drop-length s))
     by-end false g e =
-        after-mark NoHundredths (Hundredths f) (none-hundredths f) (byteAt s at 46) _ e (λ i p q.
+        after-scanned NoHundredths (Hundredths f) (none-hundredths f) (byteAt s at 46) _ e (λ i p q.
         (fraction-text s i f q .0, byte-text s at 46 i p ∙ fraction-text s i f q .1))
 
 hundredths-read : (s : List ℕ) (at f : ℕ) → at ≤ length s → f < 100 → drop at s ≡ hundredthsText f → hundredthsAt s at ≡ Hundredths f
-unfolding hundredthsAt hundredthsText onMark choose
+unfolding hundredthsAt hundredthsText onScanned choose
 hundredths-read s at f w h e = by-test (eqb f 0) refl e
   where
     by-test : (t : Bool) →

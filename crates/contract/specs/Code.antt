@@ -6,7 +6,7 @@ use lib.ListN.{length, take, replicate}
 use lib.Dec.{ltb, eqb}
 use Rattle.choice.specs.Choice.{choose}
 use Rattle.terms.specs.Refusals as no
-use Rattle.decimal.specs.Scan.{onMark, byteAt}
+use Rattle.decimal.specs.Scan.{onScanned, byteAt}
 use Rattle.contract.specs.Future.{FutureCode, futureAt}
 use Rattle.contract.specs.Date.{TwoDigitsEach, dateVerdict, dateText, dateAt, onDate}
 use Rattle.contract.specs.Kind.{kindText, kindAt, onKind}
@@ -43,8 +43,8 @@ pub record Says (bytes future : List ℕ) (terms : Terms) : Type 0 where
 
 unfoldable pub layoutAt : List ℕ → LayoutRead
 layoutAt s =
-    onMark (futureAt s) NoLayout (λ n.
-    onMark (byteAt s n 77) NoLayout (λ a.
+    onScanned (futureAt s) NoLayout (λ n.
+    onScanned (byteAt s n 77) NoLayout (λ a.
     onDate (dateAt s a) NoLayout (λ date b.
     onKind (kindAt s b) NoLayout (λ option category c.
     onStrike (strikeAt s c) NoLayout (λ strike.
@@ -87,7 +87,7 @@ termsVerdict terms =
 
 unfoldable pub writeVerdict : List ℕ → Terms → Verdict
 writeVerdict future terms =
-    onMark (futureAt future) (Refused Layout) (λ n.
+    onScanned (futureAt future) (Refused Layout) (λ n.
     choose (eqb n (length future)) (termsVerdict terms) (Refused Layout))
 
 -- a code in the 31 bytes, 0 in the places past it

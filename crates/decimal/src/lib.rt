@@ -8,7 +8,7 @@ pub enum Numeral {
 }
 
 // Text that must stand at a place.
-pub enum Mark {
+pub enum Scanned {
     // the place after what was read
     Next(usize),
     Broken,

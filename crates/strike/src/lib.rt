@@ -3,8 +3,8 @@ use contract::types::HundredthsRead;
 use contract::types::Refusal;
 use contract::types::StrikeRead;
 use contract::types::Verdict;
-use decimal::Mark;
 use decimal::Numeral;
+use decimal::Scanned;
 use terms::bounds::MAX_STRIKE;
 ghost use mathlib.Core.Path.{_≡_};
 ghost use Prim.Native.Nat.{_+_, _*_, _≤_, _<_};
@@ -47,7 +47,7 @@ fn hundredths(s: &[u8], at: usize) -> HundredthsRead
     if at == s.len() {
         return HundredthsRead::Hundredths(0);
     }
-    let Mark::Next(i) = scan::expect(s, at, b'.') else {
+    let Scanned::Next(i) = scan::expect(s, at, b'.') else {
         return HundredthsRead::NoHundredths;
     };
     fraction(s, i)
