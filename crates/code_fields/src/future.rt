@@ -1,8 +1,13 @@
-// The futures code: 1 to 8 capitals, a hyphen, the month, a point, two digits of the year.
+// The futures code: capitals, a hyphen, the month, a point, two digits of the year.
+use contract::bounds::MAX_NAME;
+use contract::bounds::MONTHS;
 use decimal::Numeral;
 use decimal::Scanned;
 ghost use mathlib.Core.Path.{_≡_};
 ghost use Rattle.contract.specs.Future.{capitalOf, nameEnd, nameAt, monthAt, yearAt, futureAt};
+
+// The least number after the months.
+const PAST_MONTHS: u64 = MONTHS + 1;
 
 fn capital(b: u8) -> bool
     ensures { λ r. ⌜ r ≡ capitalOf b ⌝ }
@@ -32,7 +37,7 @@ fn name(s: &[u8]) -> Scanned
         if !letter {
             return name_end(i);
         }
-        if 8 <= i {
+        if MAX_NAME <= i {
             return Scanned::Broken;
         }
         i += 1;
@@ -43,11 +48,11 @@ fn name(s: &[u8]) -> Scanned
 fn month(s: &[u8], at: usize) -> Scanned
     ensures { λ r. ⌜ r ≡ monthAt (now (s .entry)) at ⌝ }
 {
-    let Numeral::Value { value, next } = scan::numeral(s, at, 13) else {
+    let Numeral::Value { value, next } = scan::numeral(s, at, PAST_MONTHS) else {
         return Scanned::Broken;
     };
     match value {
-        1..=12 => Scanned::Next(next),
+        1..=MONTHS => Scanned::Next(next),
         _ => Scanned::Broken,
     }
 }

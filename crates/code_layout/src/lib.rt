@@ -11,6 +11,7 @@ ghost use mathlib.Core.List.{_∷_, _++_};
 ghost use Prim.Native.Nat.{_+_, _≤_};
 ghost use lib.ListN.{length};
 ghost use Rattle.decimal.specs.Put.{Put};
+ghost use Rattle.contract.specs.Bounds.{dateLength};
 ghost use Rattle.contract.specs.Code.{codeText, layoutAt};
 ghost use Rattle.contract.specs.Date.{TwoDigitsEach, dateText};
 
@@ -51,7 +52,7 @@ pub fn fields(s: &[u8]) -> LayoutRead
 
 // The futures code, M and the date, at the start of a buffer.
 fn put_head(out: &mut [u8], future: &[u8], date: Date) -> usize
-    requires { ⌜ (length (now future) + 7 ≤ length (now out)) × TwoDigitsEach date ⌝ }
+    requires { ⌜ (length (now future) + (1 + dateLength) ≤ length (now out)) × TwoDigitsEach date ⌝ }
     ensures { λ r. ⌜ Put (now (out .entry)) 0 (now (future .entry) ++ (77 ∷ dateText date)) (now (out .exit)) r ⌝ }
 {
     let a = put::bytes(out, 0, future);

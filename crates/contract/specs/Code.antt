@@ -3,10 +3,12 @@ use Prim.Native.Nat.{ℕ, _-_}
 use mathlib.Core.Path.{_≡_}
 use mathlib.Core.List.{List, [], _∷_, _++_}
 use lib.ListN.{length, take, replicate}
-use lib.Dec.{ltb, eqb}
+use lib.Dec.{leb, eqb}
 use Rattle.choice.specs.Choice.{choose}
 use Rattle.terms.specs.Refusals as no
 use Rattle.decimal.specs.Scan.{onScanned, byteAt}
+use Rattle.decimal.specs.Text.{pairs}
+use Rattle.contract.specs.Bounds.{maxCode}
 use Rattle.contract.specs.Future.{FutureCode, futureAt}
 use Rattle.contract.specs.Date.{TwoDigitsEach, dateVerdict, dateText, dateAt, onDate}
 use Rattle.contract.specs.Kind.{kindText, kindAt, onKind}
@@ -81,21 +83,21 @@ futureOf s = onRead (readCode s) [] (λ n terms. take n s)
 
 unfoldable pub termsVerdict : Terms → Verdict
 termsVerdict terms =
-    choose (ltb 99 (terms .date .day)) (Refused Layout)
-    (choose (ltb 99 (terms .date .month)) (Refused Layout)
-    (choose (ltb 99 (terms .date .year)) (Refused Layout) (verdictOf terms)))
+    choose (leb pairs (terms .date .day)) (Refused Layout)
+    (choose (leb pairs (terms .date .month)) (Refused Layout)
+    (choose (leb pairs (terms .date .year)) (Refused Layout) (verdictOf terms)))
 
 unfoldable pub writeVerdict : List ℕ → Terms → Verdict
 writeVerdict future terms =
     onScanned (futureAt future) (Refused Layout) (λ n.
     choose (eqb n (length future)) (termsVerdict terms) (Refused Layout))
 
--- a code in the 31 bytes, 0 in the places past it
+-- a code with 0 in the places past it, up to the longest
 abbrev pub accepted : List ℕ → Written
-accepted code = record { bytes = code ++ replicate (31 - length code) 0; len = length code; verdict = Accepted }
+accepted code = record { bytes = code ++ replicate (maxCode - length code) 0; len = length code; verdict = Accepted }
 
 abbrev pub refused : Refusal → Written
-refused r = record { bytes = replicate 31 0; len = 0; verdict = Refused r }
+refused r = record { bytes = replicate maxCode 0; len = 0; verdict = Refused r }
 
 unfoldable pub written : List ℕ → Terms → Written
 written future terms = onVerdict (writeVerdict future terms) (accepted (codeText future terms)) refused
