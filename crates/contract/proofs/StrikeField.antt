@@ -32,7 +32,7 @@ use Rattle.contract.specs.declared.types.StrikeRead.the-variants.{Strike
 use Rattle.contract.specs.Bounds.{tooManyUnits, maxStrikeText}
 use Rattle.contract.proofs.Scanning.{after-scanned, byte-read, byte-text}
 
--- what follows the strike, by what its reader answered
+-- ---- what follows the strike, by what its reader answered
 module _ {A : Type 0} (x : A) (k : ℕ → A) (r m : StrikeRead) where
   pub struck : (y : A) (h : ℕ) → r ≡ m → r ≡ Strike h → y ≡ k h → y ≡ onStrike m x k
   unfolding onStrike
@@ -52,10 +52,10 @@ unfolding onStrike
 after-strike x y f (Strike h) k e g = g h refl e
 after-strike x y f NoStrike k e g = absurd (f e)
 
+-- ---- the digits after the point
 none-hundredths : (f : ℕ) → NoHundredths ≡ Hundredths f → ⊥
 none-hundredths f e = let z : _≡_ {A = ℕ} 0 1 = cc in omega arith
 
--- the digits after the point
 fraction-text : (s : List ℕ) (at f : ℕ) → fractionAt s at ≡ Hundredths f → (f < 100) × (46 ∷ drop at s ≡ hundredthsText f)
 unfolding fractionAt hundredthsText choose
 fraction-text s at f e =
@@ -151,7 +151,7 @@ fraction-read s at f p q e = by-test (eqb (f % 10) 0) refl e
           m,
         )
 
--- what follows the units
+-- ---- what follows the units
 hundredths-text : (s : List ℕ) (at f : ℕ) → hundredthsAt s at ≡ Hundredths f → (f < 100) × (drop at s ≡ hundredthsText f)
 unfolding hundredthsAt hundredthsText choose
 hundredths-text s at f e = by-end (eqb at (length s)) refl e
@@ -182,7 +182,7 @@ hundredths-read s at f w h e = by-test (eqb f 0) refl e
         rw (ne-eqb at (length s) (λ k. omega (arith, here-in s at 46 _ e)), byte-read s at 46 _ e)
         (fraction-read s (at + 1) f (omega (arith, eqb-false f 0 z)) h (here-next s at 46 _ e))
 
--- the strike
+-- ---- the strike
 units-of : (u f : ℕ) → f < 100 → (u * 100 + f) / 100 ≡ u
 units-of u f h = omega arith
 
@@ -243,7 +243,7 @@ strike-read s at strike e =
       z,
     )
 
--- steps of the reader, which reads the units up to the least that no strike has
+-- ---- steps of the reader, which reads the units up to the least that no strike has
 module _ (s : List ℕ) (at : ℕ) (r : Numeral) (p : r ≡ capped tooManyUnits (numeralAt s at)) where
   pub strike-none : r ≡ NoNumeral → NoStrike ≡ strikeAt s at
   unfolding strikeAt
@@ -287,7 +287,7 @@ module _ (s : List ℕ) (at : ℕ) (r : Numeral) (p : r ≡ capped tooManyUnits 
           let below : f < 100 = hundredths-text s i f (sym a ∙ b) .0 in
           omega (arith, capped-most NoStrike (λ v n. NoStrike) tooManyUnits r (numeralAt s at) p u i q)
 
--- steps of the writer: no hundredths, one digit of them, two digits
+-- ---- steps of the writer: no hundredths, one digit of them, two digits
 pub put-none : (l : List ℕ) (at f : ℕ) → f ≡ 0 → Put l at (hundredthsText f) l at
 unfolding hundredthsText choose
 put-none l at f e = rw e (record { place = omega arith; bytes = refl })
@@ -319,6 +319,7 @@ module _ (f : ℕ) (n : f ≡ 0 → ⊥) where
     put-two l m k j at p q r a b c =
         rw (ne-eqb f 0 n, ne-eqb (f % 10) 0 z) (then l m j at p r (46 ∷ []) _ a (then m k j p q r (_ ∷ []) _ b c))
 
+-- ---- how long a strike is
 pub length-strike : (h : ℕ) → length (strikeText h) ≡ length (decimal (h / 100)) + length (hundredthsText (h % 100))
 length-strike h = length-append (decimal (h / 100)) (hundredthsText (h % 100))
 

@@ -27,6 +27,8 @@ use Rattle.contract.proofs.DateField.{after-date, date-read, after-date
 use Rattle.contract.proofs.KindField.{after-kind, kind-read, kind-text}
 use Rattle.contract.proofs.StrikeField.{after-strike, strike-read, strike-text}
 
+-- ---- the layout
+
 -- terms as the reader counts them: it tells no strikes apart that are far above the bound
 abbrev pub countedTerms : Terms → Terms
 countedTerms t = record { date = t .date; option = t .option; category = t .category; strike = counted (t .strike) }
@@ -98,7 +100,7 @@ layout-text s n x e =
       within = lead .within;
     }))))))
 
--- what follows the layout, the verdict and the reading, by what was answered
+-- ---- what follows the layout, the verdict and the reading, by what was answered
 module _ {A : Type 0} (x : A) (k : ℕ → Terms → A) (r m : LayoutRead) where
   pub laid : (y : A) (n : ℕ) (t : Terms) → r ≡ m → r ≡ Laid n t → y ≡ k n t → y ≡ onLayout m x k
   unfolding onLayout
@@ -128,7 +130,7 @@ module _ {A : Type 0} (x : A) (k : ℕ → Terms → A) (r m : Read) where
 
 pub ruleset answers = (laid, not-laid, is-accepted, is-refused, is-code, no-code)
 
--- a code that was read has the layout, and its terms pass
+-- ---- a code that was read has the layout, and its terms pass
 pub record Passed (s : List ℕ) (n : ℕ) (t : Terms) : Type 0 where
   pub layout : layoutAt s ≡ Laid n t
   pub verdict : verdictOf t ≡ Accepted
