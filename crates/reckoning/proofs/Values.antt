@@ -27,10 +27,10 @@ values-and-splits =
       half-put = refl;
       split-3 = refl;
       split-2 = refl;
-      quantity-1000 = refl;
-      quantity-1001 = refl;
-      bought-100000 = refl;
-      bought-100001 = refl;
-      sold-100000 = refl;
-      sold-100001 = refl;
+      largest-quantity = refl;
+      larger-quantity = refl;
+      largest-bought = refl;
+      larger-bought = refl;
+      largest-sold = refl;
+      larger-sold = refl;
     }

@@ -54,10 +54,10 @@ pub record ValuesAndSplits : Type 0 where
   pub split-3 : assignedToThree 3 (2 ∷ 2 ∷ 2 ∷ []) ≡ 1 ∷ 1 ∷ 1 ∷ []
   pub split-2 : assignedToThree 2 (1 ∷ 1 ∷ 1 ∷ []) ≡ 1 ∷ 1 ∷ 0 ∷ []
   -- a trade's quantity: 1,000 is taken, 1,001 refused 6
-  pub quantity-1000 : numberAfter (thousands 0) (trade 1 2 1000) ≡ 0
-  pub quantity-1001 : numberAfter (thousands 0) (trade 1 2 1001) ≡ 6
-  -- a hundred trades of 1,000 take both positions to 100,000, which stands; 100,001 is 8, of the buyer and of the seller
-  pub bought-100000 : position (after (thousands 100)) 0 1 ≡ pos 100000
-  pub bought-100001 : numberAfter (thousands 100) (trade 1 3 1) ≡ 8
-  pub sold-100000 : position (after (thousands 100)) 0 2 ≡ negℤ (pos 100000)
-  pub sold-100001 : numberAfter (thousands 100) (trade 3 2 1) ≡ 8
+  pub largest-quantity : numberAfter (thousands 0) (trade 1 2 1000) ≡ 0
+  pub larger-quantity : numberAfter (thousands 0) (trade 1 2 1001) ≡ 6
+  -- a hundred trades of 1,000 take both positions to 100,000, which stands; one contract more is 8, of the buyer and of the seller
+  pub largest-bought : position (after (thousands 100)) 0 1 ≡ pos 100000
+  pub larger-bought : numberAfter (thousands 100) (trade 1 3 1) ≡ 8
+  pub largest-sold : position (after (thousands 100)) 0 2 ≡ negℤ (pos 100000)
+  pub larger-sold : numberAfter (thousands 100) (trade 3 2 1) ≡ 8
