@@ -5,6 +5,7 @@ use book::state::Answer;
 use book::state::Event;
 use book::state::Found;
 use series::refusal::Refusal;
+use terms::refusals;
 ghost use mathlib.Core.Path.{_≡_};
 ghost use Rattle.series.specs.Refusals.{number};
 ghost use Rattle.book.specs.Answers as rule;
@@ -15,22 +16,22 @@ fn refusal_number(why: Refusal) -> u64
     ensures { λ r. ⌜ r ≡ number why ⌝ }
 {
     match why {
-        Refusal::Finished => 1,
-        Refusal::UnknownSeries => 2,
-        Refusal::Expired => 3,
-        Refusal::UnknownAccount => 4,
-        Refusal::OwnTrade => 5,
-        Refusal::Size => 6,
-        Refusal::Price => 7,
-        Refusal::PositionLimit => 8,
-        Refusal::BlotterFull => 9,
-        Refusal::Terms => 10,
-        Refusal::SeriesFull => 11,
-        Refusal::NotToday => 12,
-        Refusal::NotHeld => 13,
-        Refusal::TickValue => 14,
-        Refusal::SecondIntraday => 15,
-        Refusal::NoMark(_) => 16,
+        Refusal::Finished => refusals::FINISHED,
+        Refusal::UnknownSeries => refusals::UNKNOWN_SERIES,
+        Refusal::Expired => refusals::EXPIRED,
+        Refusal::UnknownAccount => refusals::UNKNOWN_ACCOUNT,
+        Refusal::OwnTrade => refusals::OWN_TRADE,
+        Refusal::Size => refusals::SIZE,
+        Refusal::Price => refusals::PRICE,
+        Refusal::PositionLimit => refusals::POSITION_LIMIT,
+        Refusal::BlotterFull => refusals::BLOTTER_FULL,
+        Refusal::Terms => refusals::TERMS,
+        Refusal::SeriesFull => refusals::SERIES_FULL,
+        Refusal::NotToday => refusals::NOT_TODAY,
+        Refusal::NotHeld => refusals::NOT_HELD,
+        Refusal::TickValue => refusals::TICK_VALUE,
+        Refusal::SecondIntraday => refusals::SECOND_INTRADAY,
+        Refusal::NoMark(_) => refusals::NO_MARK,
     }
 }
 

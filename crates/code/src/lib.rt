@@ -1,11 +1,13 @@
 // Contract codes, as GAZR-3.23M150323CA17000: the reader, the writer, and the futures code that a code begins with.
+use contract::bounds::MAX_CODE;
 use contract::types::LayoutRead;
 use contract::types::Read;
 use contract::types::Refusal;
 use contract::types::Terms;
 use contract::types::Verdict;
 use contract::types::Written;
-use decimal::Mark;
+use decimal::PAIRS;
+use decimal::Scanned;
 ghost use mathlib.Core.Path.{_≡_};
 ghost use Rattle.contract.specs.Code.{inOrder, verdictOf, readCode, futureOf, termsVerdict, writeVerdict, written};
 
@@ -57,13 +59,13 @@ fn terms_verdict(terms: Terms) -> Verdict
     ensures { λ r. ⌜ r ≡ termsVerdict terms ⌝ }
 {
     let date = terms.date;
-    if 99 < date.day {
+    if PAIRS <= date.day {
         return Verdict::Refused(Refusal::Layout);
     }
-    if 99 < date.month {
+    if PAIRS <= date.month {
         return Verdict::Refused(Refusal::Layout);
     }
-    if 99 < date.year {
+    if PAIRS <= date.year {
         return Verdict::Refused(Refusal::Layout);
     }
     verdict(terms)
@@ -73,7 +75,7 @@ fn terms_verdict(terms: Terms) -> Verdict
 fn write_verdict(future: &[u8], terms: Terms) -> Verdict
     ensures { λ r. ⌜ r ≡ writeVerdict (now (future .entry)) terms ⌝ }
 {
-    let Mark::Next(n) = code_fields::future::leading(future) else {
+    let Scanned::Next(n) = code_fields::future::leading(future) else {
         return Verdict::Refused(Refusal::Layout);
     };
     if n != future.len() {
@@ -88,12 +90,12 @@ pub fn write(future: &[u8], terms: Terms) -> Written
 {
     if let Verdict::Refused(refusal) = write_verdict(future, terms) {
         return Written {
-            bytes: [0; 31],
+            bytes: [0; MAX_CODE],
             len: 0,
             verdict: Verdict::Refused(refusal),
         };
     }
-    let mut bytes = [0; 31];
+    let mut bytes = [0; MAX_CODE];
     let len = code_layout::put_code(&mut bytes, future, terms);
     Written {
         bytes,

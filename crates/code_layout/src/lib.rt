@@ -5,12 +5,13 @@ use contract::types::KindRead;
 use contract::types::LayoutRead;
 use contract::types::StrikeRead;
 use contract::types::Terms;
-use decimal::Mark;
+use decimal::Scanned;
 ghost use mathlib.Core.Path.{_≡_};
 ghost use mathlib.Core.List.{_∷_, _++_};
 ghost use Prim.Native.Nat.{_+_, _≤_};
 ghost use lib.ListN.{length};
 ghost use Rattle.decimal.specs.Put.{Put};
+ghost use Rattle.contract.specs.Bounds.{dateLength};
 ghost use Rattle.contract.specs.Code.{codeText, layoutAt};
 ghost use Rattle.contract.specs.Date.{TwoDigitsEach, dateText};
 
@@ -18,10 +19,10 @@ ghost use Rattle.contract.specs.Date.{TwoDigitsEach, dateText};
 pub fn fields(s: &[u8]) -> LayoutRead
     ensures { λ r. ⌜ r ≡ layoutAt (now (s .entry)) ⌝ }
 {
-    let Mark::Next(future) = code_fields::future::leading(s) else {
+    let Scanned::Next(future) = code_fields::future::leading(s) else {
         return LayoutRead::NoLayout;
     };
-    let Mark::Next(a) = scan::expect(s, future, b'M') else {
+    let Scanned::Next(a) = scan::expect(s, future, b'M') else {
         return LayoutRead::NoLayout;
     };
     let DateRead::Dated { date, next: b } = date::digits(s, a) else {
@@ -51,7 +52,7 @@ pub fn fields(s: &[u8]) -> LayoutRead
 
 // The futures code, M and the date, at the start of a buffer.
 fn put_head(out: &mut [u8], future: &[u8], date: Date) -> usize
-    requires { ⌜ (length (now future) + 7 ≤ length (now out)) × TwoDigitsEach date ⌝ }
+    requires { ⌜ (length (now future) + (1 + dateLength) ≤ length (now out)) × TwoDigitsEach date ⌝ }
     ensures { λ r. ⌜ Put (now (out .entry)) 0 (now (future .entry) ++ (77 ∷ dateText date)) (now (out .exit)) r ⌝ }
 {
     let a = put::bytes(out, 0, future);

@@ -11,6 +11,7 @@ use mir.Val.{Fits}
 use mir.Syntax.{w64}
 use borrow.Author.Tests.{le-leb, eq-eqb, ne-eqb, leb-true, eqb-true, eqb-false}
 use Rattle.choice.specs.Choice.{choose}
+use Rattle.terms.specs.Bounds.{maxStrike}
 use Rattle.decimal.specs.Text.{digitByte, decimal}
 use Rattle.decimal.specs.Read.{digitOf, numeralAt, capped, onNumeral}
 use Rattle.decimal.specs.Put.{Put}
@@ -22,15 +23,16 @@ use Rattle.decimal.proofs.Digits.{digit-of, digit-byte, digit-in}
 use Rattle.decimal.proofs.Reading.{capped-value, capped-none, capped-most}
 use Rattle.decimal.proofs.Numerals.{NoDigit, end-no-digit, byte-no-digit, after-numeral, numeral-read, numeral-text, length-some, length-below}
 use Rattle.decimal.proofs.Putting.{then}
-use Rattle.decimal.specs.Scan.{onMark, byteAt}
+use Rattle.decimal.specs.Scan.{onScanned, byteAt}
 use Rattle.contract.specs.Strike.{hundredthsText, strikeText, fractionAt, hundredthsAt, onHundredths, counted, strikeAt, onStrike}
 use Rattle.contract.specs.declared.types.HundredthsRead.{HundredthsRead}
 use Rattle.contract.specs.declared.types.HundredthsRead.the-variants.{Hundredths, NoHundredths}
 use Rattle.contract.specs.declared.types.StrikeRead.{StrikeRead}
 use Rattle.contract.specs.declared.types.StrikeRead.the-variants.{Strike, NoStrike}
-use Rattle.contract.proofs.Scanning.{after-mark, byte-read, byte-text}
+use Rattle.contract.specs.Bounds.{tooManyUnits, maxStrikeText}
+use Rattle.contract.proofs.Scanning.{after-scanned, byte-read, byte-text}
 
--- what follows the strike, by what its reader answered
+-- ---- what follows the strike, by what its reader answered
 module _ {A : Type 0} (x : A) (k : ℕ → A) (r m : StrikeRead) where
   pub struck : (y : A) (h : ℕ) → r ≡ m → r ≡ Strike h → y ≡ k h → y ≡ onStrike m x k
   unfolding onStrike
@@ -50,10 +52,10 @@ unfolding onStrike
 after-strike x y f (Strike h) k e g = g h refl e
 after-strike x y f NoStrike k e g = absurd (f e)
 
+-- ---- the digits after the point
 none-hundredths : (f : ℕ) → NoHundredths ≡ Hundredths f → ⊥
 none-hundredths f e = let z : _≡_ {A = ℕ} 0 1 = cc in omega arith
 
--- the digits after the point
 fraction-text : (s : List ℕ) (at f : ℕ) → fractionAt s at ≡ Hundredths f → (f < 100) × (46 ∷ drop at s ≡ hundredthsText f)
 unfolding fractionAt hundredthsText choose
 fraction-text s at f e =
@@ -149,24 +151,24 @@ fraction-read s at f p q e = by-test (eqb (f % 10) 0) refl e
           m,
         )
 
--- what follows the units
+-- ---- what follows the units
 hundredths-text : (s : List ℕ) (at f : ℕ) → hundredthsAt s at ≡ Hundredths f → (f < 100) × (drop at s ≡ hundredthsText f)
 unfolding hundredthsAt hundredthsText choose
 hundredths-text s at f e = by-end (eqb at (length s)) refl e
   where
     by-end : (t : Bool) →
         eqb at (length s) ≡ t →
-        choose t (Hundredths 0) (onMark (byteAt s at 46) NoHundredths (λ i. fractionAt s i)) ≡ Hundredths f →
+        choose t (Hundredths 0) (onScanned (byteAt s at 46) NoHundredths (λ i. fractionAt s i)) ≡ Hundredths f →
         (f < 100) × (drop at s ≡ hundredthsText f)
     by-end true g e =
         let z : 0 ≡ f = cc in
         (omega arith, rw (← z, eqb-true at (length s) g, drop-length s))
     by-end false g e =
-        after-mark NoHundredths (Hundredths f) (none-hundredths f) (byteAt s at 46) _ e (λ i p q.
+        after-scanned NoHundredths (Hundredths f) (none-hundredths f) (byteAt s at 46) _ e (λ i p q.
         (fraction-text s i f q .0, byte-text s at 46 i p ∙ fraction-text s i f q .1))
 
 hundredths-read : (s : List ℕ) (at f : ℕ) → at ≤ length s → f < 100 → drop at s ≡ hundredthsText f → hundredthsAt s at ≡ Hundredths f
-unfolding hundredthsAt hundredthsText onMark choose
+unfolding hundredthsAt hundredthsText onScanned choose
 hundredths-read s at f w h e = by-test (eqb f 0) refl e
   where
     by-test : (t : Bool) →
@@ -180,7 +182,7 @@ hundredths-read s at f w h e = by-test (eqb f 0) refl e
         rw (ne-eqb at (length s) (λ k. omega (arith, here-in s at 46 _ e)), byte-read s at 46 _ e)
         (fraction-read s (at + 1) f (omega (arith, eqb-false f 0 z)) h (here-next s at 46 _ e))
 
--- the strike
+-- ---- the strike
 units-of : (u f : ℕ) → f < 100 → (u * 100 + f) / 100 ≡ u
 units-of u f h = omega arith
 
@@ -241,29 +243,29 @@ strike-read s at strike e =
       z,
     )
 
--- steps of the reader, which reads the units up to 100001
-module _ (s : List ℕ) (at : ℕ) (r : Numeral) (p : r ≡ capped 100001 (numeralAt s at)) where
+-- ---- steps of the reader, which reads the units up to the least that no strike has
+module _ (s : List ℕ) (at : ℕ) (r : Numeral) (p : r ≡ capped tooManyUnits (numeralAt s at)) where
   pub strike-none : r ≡ NoNumeral → NoStrike ≡ strikeAt s at
   unfolding strikeAt
-  strike-none q = capped-none NoStrike _ 100001 r (numeralAt s at) p NoStrike q refl
+  strike-none q = capped-none NoStrike _ tooManyUnits r (numeralAt s at) p NoStrike q refl
 
   pub units-room : (u i : ℕ) → r ≡ Value u i → Fits w64 (u * 100)
-  units-room u i q = omega (arith, capped-most NoStrike (λ v n. NoStrike) 100001 r (numeralAt s at) p u i q)
+  units-room u i q = omega (arith, capped-most NoStrike (λ v n. NoStrike) tooManyUnits r (numeralAt s at) p u i q)
 
   module _ (u i : ℕ) (q : r ≡ Value u i) (m : HundredthsRead) (a : m ≡ hundredthsAt s i) where
     strike-by : (y : StrikeRead) →
         y ≡ onHundredths (hundredthsAt s i) NoStrike (λ f. Strike (counted (u * 100 + f))) →
         y ≡ strikeAt s at
     unfolding strikeAt onHundredths
-    strike-by y e = capped-value NoStrike _ 100001 r (numeralAt s at) p y u i q e (λ w. same w (hundredthsAt s i) refl)
+    strike-by y e = capped-value NoStrike _ tooManyUnits r (numeralAt s at) p y u i q e (λ w. same w (hundredthsAt s i) refl)
       where
         same : (w : ℕ) (x : HundredthsRead) →
             hundredthsAt s i ≡ x →
-            onHundredths x NoStrike (λ f. Strike (counted (min w 100001 * 100 + f)))
+            onHundredths x NoStrike (λ f. Strike (counted (min w tooManyUnits * 100 + f)))
             ≡ onHundredths x NoStrike (λ f. Strike (counted (w * 100 + f)))
         same w (Hundredths f) g =
             let below : f < 100 = hundredths-text s i f g .0 in
-            let z : counted (min w 100001 * 100 + f) ≡ counted (w * 100 + f) = omega arith in
+            let z : counted (min w tooManyUnits * 100 + f) ≡ counted (w * 100 + f) = omega arith in
             ap Strike z
         same w NoHundredths g = refl
 
@@ -276,16 +278,16 @@ module _ (s : List ℕ) (at : ℕ) (r : Numeral) (p : r ≡ capped 100001 (numer
       unfolding onHundredths
       strike-found =
           let below : f < 100 = hundredths-text s i f (sym a ∙ b) .0 in
-          let most : u ≤ 100001 = capped-most NoStrike (λ v n. NoStrike) 100001 r (numeralAt s at) p u i q in
+          let most : u ≤ tooManyUnits = capped-most NoStrike (λ v n. NoStrike) tooManyUnits r (numeralAt s at) p u i q in
           let z : u * 100 + f ≡ counted (u * 100 + f) = omega arith in
           strike-by (Strike (u * 100 + f)) (rw (← a, b) (ap Strike z))
 
       pub strike-room : Fits w64 (u * 100 + f)
       strike-room =
           let below : f < 100 = hundredths-text s i f (sym a ∙ b) .0 in
-          omega (arith, capped-most NoStrike (λ v n. NoStrike) 100001 r (numeralAt s at) p u i q)
+          omega (arith, capped-most NoStrike (λ v n. NoStrike) tooManyUnits r (numeralAt s at) p u i q)
 
--- steps of the writer: no hundredths, one digit of them, two digits
+-- ---- steps of the writer: no hundredths, one digit of them, two digits
 pub put-none : (l : List ℕ) (at f : ℕ) → f ≡ 0 → Put l at (hundredthsText f) l at
 unfolding hundredthsText choose
 put-none l at f e = rw e (record { place = omega arith; bytes = refl })
@@ -317,10 +319,11 @@ module _ (f : ℕ) (n : f ≡ 0 → ⊥) where
     put-two l m k j at p q r a b c =
         rw (ne-eqb f 0 n, ne-eqb (f % 10) 0 z) (then l m j at p r (46 ∷ []) _ a (then m k j p q r (_ ∷ []) _ b c))
 
+-- ---- how long a strike is
 pub length-strike : (h : ℕ) → length (strikeText h) ≡ length (decimal (h / 100)) + length (hundredthsText (h % 100))
 length-strike h = length-append (decimal (h / 100)) (hundredthsText (h % 100))
 
--- a strike within its bounds has at most 8 bytes
+-- a strike within its bounds is not longer than the longest
 hundredths-length : (f : ℕ) → length (hundredthsText f) ≤ 3
 unfolding hundredthsText choose
 hundredths-length f = by-test (eqb f 0) (eqb (f % 10) 0)
@@ -330,11 +333,11 @@ hundredths-length f = by-test (eqb f 0) (eqb (f % 10) 0)
     by-test false true = omega arith
     by-test false false = omega arith
 
-pub strike-length : (h : ℕ) → h ≤ 10000000 → length (strikeText h) ≤ 8
+pub strike-length : (h : ℕ) → h ≤ maxStrike → length (strikeText h) ≤ maxStrikeText
 unfolding hundredthsText choose
 strike-length h g = by-test (eqb (h % 100) 0) refl
   where
-    by-test : (t : Bool) → eqb (h % 100) 0 ≡ t → length (strikeText h) ≤ 8
+    by-test : (t : Bool) → eqb (h % 100) 0 ≡ t → length (strikeText h) ≤ maxStrikeText
     by-test true e =
         let z : length (hundredthsText (h % 100)) ≡ 0 = rw e in
         omega (arith, length-strike h, length-below 5 (h / 100) (omega arith))

@@ -6,7 +6,7 @@ use native.Mathlib.Omega.{arith}
 use lib.ListN.{length, drop, take, take-append-drop}
 use lib.Seq.{drop-at, length-take-le}
 use Rattle.decimal.proofs.Places.{here-next}
-use Rattle.decimal.specs.Scan.{onMark, byteAt}
+use Rattle.decimal.specs.Scan.{onScanned, byteAt}
 use Rattle.contract.specs.Future.{futureAt}
 use Rattle.contract.specs.Date.{dateText, dateAt, onDate}
 use Rattle.contract.specs.Kind.{kindText, kindAt, onKind}
@@ -21,11 +21,13 @@ use Rattle.contract.specs.declared.types.Read.{Read}
 use Rattle.contract.specs.declared.types.Read.the-variants.{Code, NoCode}
 use Rattle.contract.specs.declared.types.LayoutRead.{LayoutRead}
 use Rattle.contract.specs.declared.types.LayoutRead.the-variants.{Laid, NoLayout}
-use Rattle.contract.proofs.Scanning.{after-mark, byte-read, byte-text}
+use Rattle.contract.proofs.Scanning.{after-scanned, byte-read, byte-text}
 use Rattle.contract.proofs.FutureField.{future-read, future-text}
 use Rattle.contract.proofs.DateField.{after-date, date-read, after-date-text, date-text}
 use Rattle.contract.proofs.KindField.{after-kind, kind-read, kind-text}
 use Rattle.contract.proofs.StrikeField.{after-strike, strike-read, strike-text}
+
+-- ---- the layout
 
 -- terms as the reader counts them: it tells no strikes apart that are far above the bound
 abbrev pub countedTerms : Terms → Terms
@@ -33,7 +35,7 @@ countedTerms t = record { date = t .date; option = t .option; category = t .cate
 
 -- a text that says terms is read as them
 pub layout-read : (s f : List ℕ) (t : Terms) → Says s f t → layoutAt s ≡ Laid (length f) (countedTerms t)
-unfolding layoutAt onMark onDate onKind onStrike
+unfolding layoutAt onScanned onDate onKind onStrike
 layout-read s f t c =
     let n = length f in
     let tail = kindText (t .option) (t .category) ++ strikeText (t .strike) in
@@ -65,8 +67,8 @@ none-laid n x e = let z : _≡_ {A = ℕ} 0 1 = cc in omega arith
 pub layout-text : (s : List ℕ) (n : ℕ) (x : Terms) → layoutAt s ≡ Laid n x → Told s n x
 unfolding layoutAt
 layout-text s n x e =
-    after-mark NoLayout (Laid n x) (none-laid n x) (futureAt s) _ e (λ k pk ek.
-    after-mark NoLayout (Laid n x) (none-laid n x) (byteAt s k 77) _ ek (λ a pa ea.
+    after-scanned NoLayout (Laid n x) (none-laid n x) (futureAt s) _ e (λ k pk ek.
+    after-scanned NoLayout (Laid n x) (none-laid n x) (byteAt s k 77) _ ek (λ a pa ea.
     after-date NoLayout (Laid n x) (none-laid n x) (dateAt s a) _ ea (λ d b pb eb.
     after-kind NoLayout (Laid n x) (none-laid n x) (kindAt s b) _ eb (λ o g c pc ec.
     after-strike NoLayout (Laid n x) (none-laid n x) (strikeAt s c) _ ec (λ h ph eh.
@@ -98,7 +100,7 @@ layout-text s n x e =
       within = lead .within;
     }))))))
 
--- what follows the layout, the verdict and the reading, by what was answered
+-- ---- what follows the layout, the verdict and the reading, by what was answered
 module _ {A : Type 0} (x : A) (k : ℕ → Terms → A) (r m : LayoutRead) where
   pub laid : (y : A) (n : ℕ) (t : Terms) → r ≡ m → r ≡ Laid n t → y ≡ k n t → y ≡ onLayout m x k
   unfolding onLayout
@@ -128,7 +130,7 @@ module _ {A : Type 0} (x : A) (k : ℕ → Terms → A) (r m : Read) where
 
 pub ruleset answers = (laid, not-laid, is-accepted, is-refused, is-code, no-code)
 
--- a code that was read has the layout, and its terms pass
+-- ---- a code that was read has the layout, and its terms pass
 pub record Passed (s : List ℕ) (n : ℕ) (t : Terms) : Type 0 where
   pub layout : layoutAt s ≡ Laid n t
   pub verdict : verdictOf t ≡ Accepted

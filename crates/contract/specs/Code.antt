@@ -3,9 +3,12 @@ use Prim.Native.Nat.{ℕ, _-_}
 use mathlib.Core.Path.{_≡_}
 use mathlib.Core.List.{List, [], _∷_, _++_}
 use lib.ListN.{length, take, replicate}
-use lib.Dec.{ltb, eqb}
+use lib.Dec.{leb, eqb}
 use Rattle.choice.specs.Choice.{choose}
-use Rattle.decimal.specs.Scan.{onMark, byteAt}
+use Rattle.terms.specs.Refusals as no
+use Rattle.decimal.specs.Scan.{onScanned, byteAt}
+use Rattle.decimal.specs.Text.{pairs}
+use Rattle.contract.specs.Bounds.{maxCode}
 use Rattle.contract.specs.Future.{FutureCode, futureAt}
 use Rattle.contract.specs.Date.{TwoDigitsEach, dateVerdict, dateText, dateAt, onDate}
 use Rattle.contract.specs.Kind.{kindText, kindAt, onKind}
@@ -23,9 +26,9 @@ use Rattle.contract.specs.declared.types.LayoutRead.the-variants.{Laid, 
 
 -- 01, "Refusals": the number of each
 unfoldable pub number : Refusal → ℕ
-number Layout = 17
-number NoDate = 18
-number StrikeText = 19
+number Layout = no.code
+number NoDate = no.date
+number StrikeText = no.strikeText
 
 -- the text of a futures code and the other terms; M is 77
 abbrev pub codeText : List ℕ → Terms → List ℕ
@@ -42,8 +45,8 @@ pub record Says (bytes future : List ℕ) (terms : Terms) : Type 0 where
 
 unfoldable pub layoutAt : List ℕ → LayoutRead
 layoutAt s =
-    onMark (futureAt s) NoLayout (λ n.
-    onMark (byteAt s n 77) NoLayout (λ a.
+    onScanned (futureAt s) NoLayout (λ n.
+    onScanned (byteAt s n 77) NoLayout (λ a.
     onDate (dateAt s a) NoLayout (λ date b.
     onKind (kindAt s b) NoLayout (λ option category c.
     onStrike (strikeAt s c) NoLayout (λ strike.
@@ -80,21 +83,21 @@ futureOf s = onRead (readCode s) [] (λ n terms. take n s)
 
 unfoldable pub termsVerdict : Terms → Verdict
 termsVerdict terms =
-    choose (ltb 99 (terms .date .day)) (Refused Layout)
-    (choose (ltb 99 (terms .date .month)) (Refused Layout)
-    (choose (ltb 99 (terms .date .year)) (Refused Layout) (verdictOf terms)))
+    choose (leb pairs (terms .date .day)) (Refused Layout)
+    (choose (leb pairs (terms .date .month)) (Refused Layout)
+    (choose (leb pairs (terms .date .year)) (Refused Layout) (verdictOf terms)))
 
 unfoldable pub writeVerdict : List ℕ → Terms → Verdict
 writeVerdict future terms =
-    onMark (futureAt future) (Refused Layout) (λ n.
+    onScanned (futureAt future) (Refused Layout) (λ n.
     choose (eqb n (length future)) (termsVerdict terms) (Refused Layout))
 
--- a code in the 31 bytes, 0 in the places past it
+-- a code with 0 in the places past it, up to the longest
 abbrev pub accepted : List ℕ → Written
-accepted code = record { bytes = code ++ replicate (31 - length code) 0; len = length code; verdict = Accepted }
+accepted code = record { bytes = code ++ replicate (maxCode - length code) 0; len = length code; verdict = Accepted }
 
 abbrev pub refused : Refusal → Written
-refused r = record { bytes = replicate 31 0; len = 0; verdict = Refused r }
+refused r = record { bytes = replicate maxCode 0; len = 0; verdict = Refused r }
 
 unfoldable pub written : List ℕ → Terms → Written
 written future terms = onVerdict (writeVerdict future terms) (accepted (codeText future terms)) refused

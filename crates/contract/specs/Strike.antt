@@ -8,7 +8,8 @@ use Rattle.choice.specs.Choice.{choose}
 use Rattle.terms.specs.Bounds.{maxStrike}
 use Rattle.decimal.specs.Text.{digitByte, decimal}
 use Rattle.decimal.specs.Read.{digitOf, numeralAt, onNumeral}
-use Rattle.decimal.specs.Scan.{onMark, byteAt}
+use Rattle.decimal.specs.Scan.{onScanned, byteAt}
+use Rattle.contract.specs.Bounds.{tooManyUnits}
 use Rattle.contract.specs.declared.types.Refusal.the-variants.{StrikeText}
 use Rattle.contract.specs.declared.types.Verdict.{Verdict}
 use Rattle.contract.specs.declared.types.Verdict.the-variants.{Accepted, Refused}
@@ -43,15 +44,15 @@ fractionAt s at =
 -- reading what follows the units, to the end
 unfoldable pub hundredthsAt : List ℕ → ℕ → HundredthsRead
 hundredthsAt s at =
-    choose (eqb at (length s)) (Hundredths 0) (onMark (byteAt s at 46) NoHundredths (λ i. fractionAt s i))
+    choose (eqb at (length s)) (Hundredths 0) (onScanned (byteAt s at 46) NoHundredths (λ i. fractionAt s i))
 
 unfoldable pub onHundredths : {A : Type 0} → HundredthsRead → A → (ℕ → A) → A
 onHundredths (Hundredths f) none next = next f
 onHundredths NoHundredths none next = none
 
--- Strikes above 100000 are all refused, and the reader need not tell them apart: units above 100000 count as 100001.
+-- Strikes above 100000 are all refused, and the reader need not tell them apart: their units count as the least such.
 abbrev pub counted : ℕ → ℕ
-counted strike = min (strike / 100) (maxStrike / 100 + 1) * 100 + strike % 100
+counted strike = min (strike / 100) tooManyUnits * 100 + strike % 100
 
 unfoldable pub strikeAt : List ℕ → ℕ → StrikeRead
 strikeAt s at =

@@ -1,4 +1,5 @@
 // The last trading day, DDMMYY.
+use contract::bounds::MONTHS;
 use contract::types::Date;
 use contract::types::DateRead;
 use contract::types::Refusal;
@@ -8,6 +9,7 @@ ghost use mathlib.Core.Path.{_≡_};
 ghost use Prim.Native.Nat.{_+_, _≤_};
 ghost use lib.ListN.{length};
 ghost use Rattle.decimal.specs.Put.{Put};
+ghost use Rattle.contract.specs.Bounds.{dateLength};
 ghost use Rattle.contract.specs.Date.{leapYear, daysIn, isDate, dateVerdict, TwoDigitsEach, dateText, dateAt};
 
 // Any two digits each: whether there is such a date is asked once the layout of the whole code is known.
@@ -63,7 +65,7 @@ fn month_days(year: u64, month: u64) -> u64
     }
     match month {
         1..=7 => 30 + month % 2,
-        8..=12 => 31 - month % 2,
+        8..=MONTHS => 31 - month % 2,
         _ => 0,
     }
 }
@@ -88,7 +90,7 @@ pub fn verdict(date: Date) -> Verdict
 }
 
 pub fn put_digits(out: &mut [u8], at: usize, date: Date) -> usize
-    requires { ⌜ (at + 6 ≤ length (now out)) × TwoDigitsEach date ⌝ }
+    requires { ⌜ (at + dateLength ≤ length (now out)) × TwoDigitsEach date ⌝ }
     ensures { λ r. ⌜ Put (now (out .entry)) at (dateText date) (now (out .exit)) r ⌝ }
 {
     let b = put::two_digits(out, at, date.day);

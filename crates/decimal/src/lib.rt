@@ -1,5 +1,8 @@
 // Decimal text: what its readers answer, and the rules of readers and writers.
 
+// How many numbers two digits write.
+pub const PAIRS: u64 = 100;
+
 // A number that was looked for at a place.
 pub enum Numeral {
     // a number, and the place after its text
@@ -8,7 +11,7 @@ pub enum Numeral {
 }
 
 // Text that must stand at a place.
-pub enum Mark {
+pub enum Scanned {
     // the place after what was read
     Next(usize),
     Broken,

@@ -6,12 +6,15 @@ ghost use mathlib.Core.Path.{_≡_};
 ghost use Rattle.rows.specs.Field.{shortAt, numberAt, heldInByte, byteAt, codeOn, codeEnd};
 ghost use lib.ListN.{drop};
 
-// The most digits of a number, and the least number with more.
+// The most digits of a number, and the least number with more: 10 to the power of them.
 const MAX_DIGITS: usize = 18;
 
 const TOO_LARGE: u64 = 1000000000000000000;
 
-// A number of at most 18 digits.
+// The largest number that a byte holds.
+const LARGEST: u64 = 255;
+
+// A number of no more digits than a number has.
 fn short(s: &[u8], at: usize) -> Numeral
     ensures { λ r. ⌜ r ≡ shortAt (now (s .entry)) at ⌝ }
 {
@@ -39,7 +42,7 @@ pub fn number(s: &[u8], at: usize) -> Numeral
 fn held_in_byte(v: u64) -> u8
     ensures { λ r. ⌜ r ≡ heldInByte v ⌝ }
 {
-    if v < 255 { v as u8 } else { 255 }
+    if v < LARGEST { v as u8 } else { LARGEST as u8 }
 }
 
 pub fn byte(s: &[u8], at: usize) -> ByteRead

@@ -1,6 +1,6 @@
 // Digits, numbers and single bytes in a slice of bytes.
-use decimal::Mark;
 use decimal::Numeral;
+use decimal::Scanned;
 ghost use mathlib.Core.Path.{_≡_};
 ghost use Prim.Native.Nat.{_+_, _*_, min};
 ghost use Rattle.decimal.specs.Read.{digitOf, numeralAt, twoDigitsAt, capped};
@@ -79,13 +79,13 @@ pub fn two_digits(s: &[u8], at: usize) -> Numeral
 }
 
 // A byte that must stand at a place.
-pub fn expect(s: &[u8], at: usize, b: u8) -> Mark
+pub fn expect(s: &[u8], at: usize, b: u8) -> Scanned
     ensures { λ r. ⌜ r ≡ byteAt (now (s .entry)) at b ⌝ }
 {
     if at < s.len() {
         if s[at] == b {
-            return Mark::Next(at + 1);
+            return Scanned::Next(at + 1);
         }
     }
-    Mark::Broken
+    Scanned::Broken
 }

@@ -1,10 +1,11 @@
 // The strike: units without leading zeros, and a point with one or two digits where the last is not 0.
+use contract::bounds::TOO_MANY_UNITS;
 use contract::types::HundredthsRead;
 use contract::types::Refusal;
 use contract::types::StrikeRead;
 use contract::types::Verdict;
-use decimal::Mark;
 use decimal::Numeral;
+use decimal::Scanned;
 use terms::bounds::MAX_STRIKE;
 ghost use mathlib.Core.Path.{_≡_};
 ghost use Prim.Native.Nat.{_+_, _*_, _≤_, _<_};
@@ -47,17 +48,18 @@ fn hundredths(s: &[u8], at: usize) -> HundredthsRead
     if at == s.len() {
         return HundredthsRead::Hundredths(0);
     }
-    let Mark::Next(i) = scan::expect(s, at, b'.') else {
+    let Scanned::Next(i) = scan::expect(s, at, b'.') else {
         return HundredthsRead::NoHundredths;
     };
     fraction(s, i)
 }
 
-// The strike in hundredths, up to the end of the code. Units above 100000 count as 100001: every such strike is refused.
+// The strike in hundredths, up to the end of the code. More units than a strike has count as the least such: every such
+// strike is refused.
 pub fn last(s: &[u8], at: usize) -> StrikeRead
     ensures { λ r. ⌜ r ≡ strikeAt (now (s .entry)) at ⌝ }
 {
-    let Numeral::Value { value: units, next } = scan::numeral(s, at, 100001) else {
+    let Numeral::Value { value: units, next } = scan::numeral(s, at, TOO_MANY_UNITS) else {
         return StrikeRead::NoStrike;
     };
     let HundredthsRead::Hundredths(part) = hundredths(s, next) else {

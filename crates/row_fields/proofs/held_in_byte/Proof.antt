@@ -8,6 +8,9 @@ use Rattle.row_fields.proofs.held_in_byte.Tie as tie
 cast-result : tie.Need-cast-result
 cast-result c = search needs
 
+cast-result-2 : tie.Need-cast-result-2
+cast-result-2 c = search needs
+
 returns : tie.Need-returns
 unfolding heldInByte
 returns c = omega arith
@@ -17,4 +20,4 @@ unfolding heldInByte
 returns-2 c = omega arith
 
 pub held-in-byte-spec : {M : Type 1} → statement M
-held-in-byte-spec = tie.close (tie.spec cast-result returns returns-2)
+held-in-byte-spec = tie.close (tie.spec cast-result cast-result-2 returns returns-2)

@@ -26,7 +26,7 @@ add-t8 : tie.Need-add-t8
 add-t8 c = search needs
 
 add-t6 : tie.Need-add-t6
-add-t6 c = search (step.digit-room, step.digit-room-2)
+add-t6 c = search step.second-digit-room
 
 returns-3 : tie.Need-returns-3
 returns-3 c = search step.two-both

@@ -1,0 +1,63 @@
+-- The values and splits of 01's section of that name, said of the rules.
+use mathlib.Core.Path.{_≡_}
+use mathlib.Core.List as list
+use mathlib.Core.List.{[], _∷_}
+use Prim.Native.Nat.{ℕ}
+use lib.IntN.{pos, negℤ}
+use lib.ListN.{replicate}
+use Rattle.exercise.specs.Assignment.{assigned}
+use Rattle.exercise.specs.Exercise.{half}
+use Rattle.exercise.specs.Places.{places, amount}
+use Rattle.terms.specs.declared.Category.the-variants.{American}
+use Rattle.terms.specs.declared.OptionType.the-variants.{Call, Put}
+use Rattle.value.specs.Value.{coefficientOf, valueOf}
+use Rattle.book.specs.Answers.{answerNumber}
+use Rattle.book.specs.State.{position}
+use Rattle.book.specs.Step.{stepOf, after}
+use Rattle.book.specs.declared.state.Event.{Event}
+use Rattle.book.specs.declared.state.Event.the-variants.{List, Trade}
+
+-- what the first three writers are assigned of e contracts, where they alone are short
+abbrev pub assignedToThree : ℕ → list.List ℕ → list.List ℕ
+assignedToThree e shorts = assigned places e (amount shorts) 0 ∷ assigned places e (amount shorts) 1 ∷ assigned places e (amount shorts) 2 ∷ []
+
+-- a listing with R 1.00 and the last day 1; then, in that series, a trade of q contracts at 150.00 that x buys and y sells
+abbrev pub listing : Event
+listing = List (record { option = Call; category = American; strike = 1700000; tick = 100; «last_day» = 1 })
+
+abbrev pub trade : ℕ → ℕ → ℕ → Event
+trade x y q = Trade (record { series = 0; buyer = x; seller = y; quantity = q; price = 15000 })
+
+-- the listing and n trades of 1,000 contracts that account 1 buys and account 2 sells
+abbrev pub thousands : ℕ → list.List Event
+thousands n = listing ∷ replicate n (trade 1 2 1000)
+
+-- 01's number of the answer to an event after a list of events
+abbrev pub numberAfter : list.List Event → Event → ℕ
+numberAfter es e = answerNumber (stepOf (after es) e .answer)
+
+pub record ValuesAndSplits : Type 0 where
+  -- (W, R) to c
+  pub coefficient-100000-100 : coefficientOf 100000 100 ≡ 100000
+  pub coefficient-100000-3 : coefficientOf 100000 3 ≡ 3333333
+  pub coefficient-50000-100 : coefficientOf 50000 100 ≡ 50000
+  pub coefficient-923456-1 : coefficientOf 923456 1 ≡ 92345600
+  -- V(p) by c and p
+  pub value-92345600-317 : valueOf 92345600 317 ≡ 292736
+  pub value-3333333-1000000 : valueOf 3333333 1000000 ≡ 33333330
+  pub value-50000-1 : valueOf 50000 1 ≡ 1
+  pub value-50000-2 : valueOf 50000 2 ≡ 1
+  -- half of 5
+  pub half-call : half Call 5 ≡ 3
+  pub half-put : half Put 5 ≡ 2
+  -- E 3, writers short 2, 2, 2; E 2, writers short 1, 1, 1
+  pub split-3 : assignedToThree 3 (2 ∷ 2 ∷ 2 ∷ []) ≡ 1 ∷ 1 ∷ 1 ∷ []
+  pub split-2 : assignedToThree 2 (1 ∷ 1 ∷ 1 ∷ []) ≡ 1 ∷ 1 ∷ 0 ∷ []
+  -- a trade's quantity: 1,000 is taken, 1,001 refused 6
+  pub largest-quantity : numberAfter (thousands 0) (trade 1 2 1000) ≡ 0
+  pub larger-quantity : numberAfter (thousands 0) (trade 1 2 1001) ≡ 6
+  -- a hundred trades of 1,000 take both positions to 100,000, which stands; one contract more is 8, of the buyer and of the seller
+  pub largest-bought : position (after (thousands 100)) 0 1 ≡ pos 100000
+  pub larger-bought : numberAfter (thousands 100) (trade 1 3 1) ≡ 8
+  pub largest-sold : position (after (thousands 100)) 0 2 ≡ negℤ (pos 100000)
+  pub larger-sold : numberAfter (thousands 100) (trade 3 2 1) ≡ 8
