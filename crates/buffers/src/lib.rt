@@ -1,6 +1,7 @@
 // The buffers of a replay: input that is read and kept, output that waits, and the replay up to a place of its input.
 use book::state::Answer;
 use book::state::Book;
+use stream::bounds::WAITING_ROOM;
 use stream::types::Input;
 use stream::types::Passed;
 use stream::types::Replay;
@@ -13,7 +14,7 @@ ghost use lib.ListN.{length, take, drop};
 ghost use Rattle.report.specs.Report.{answerOf};
 ghost use Rattle.rows.specs.Cut.{keptBytes, kept};
 ghost use Rattle.stream.specs.Input.{Within};
-ghost use Rattle.stream.specs.Output.{waitsOn};
+ghost use Rattle.stream.specs.Output.{outputRoom, waitingRoom, waitsOn};
 
 // Reads once behind what is kept, where there is room: a read of no bytes is the input's end.
 pub fn fill(buf: &mut [u8], have: usize) -> Input
@@ -58,9 +59,9 @@ pub fn up_to(book: Book, row: u64, at: usize, intact: bool, from: usize) -> Pass
 // Room for the lines of one more row: where there is none, what waits is written. Once that fails nothing more is.
 pub fn flushed(out: &mut [u8], end: usize, intact: bool) -> Waiting
     requires { ⌜ end ≤ length (now out) ⌝ }
-    ensures { λ r. ⌜ (r .at ≤ 28608) × (take (r .at) (now (out .exit)) ≡ waitsOn (take end (now (out .entry)))) × (intact ≡ false → r .intact ≡ false) ⌝ }
+    ensures { λ r. ⌜ (r .at ≤ waitingRoom) × (take (r .at) (now (out .exit)) ≡ waitsOn (take end (now (out .entry)))) × (intact ≡ false → r .intact ≡ false) ⌝ }
 {
-    if end <= 28608 {
+    if end <= WAITING_ROOM {
         return Waiting {
             at: end,
             intact: intact,
@@ -81,8 +82,8 @@ pub fn flushed(out: &mut [u8], end: usize, intact: bool) -> Waiting
 
 // The line of an answer behind what waits.
 pub fn put_answer(out: &mut [u8], at: usize, row: u64, answer: Answer, intact: bool) -> Waiting
-    requires { ⌜ (at ≤ 28608) × (65536 ≤ length (now out)) ⌝ }
-    ensures { λ r. ⌜ (r .at ≤ 28608) × (take (r .at) (now (out .exit)) ≡ waitsOn (take at (now (out .entry)) ++ answerOf row answer)) × (intact ≡ false → r .intact ≡ false) ⌝ }
+    requires { ⌜ (at ≤ waitingRoom) × (outputRoom ≤ length (now out)) ⌝ }
+    ensures { λ r. ⌜ (r .at ≤ waitingRoom) × (take (r .at) (now (out .exit)) ≡ waitsOn (take at (now (out .entry)) ++ answerOf row answer)) × (intact ≡ false → r .intact ≡ false) ⌝ }
 {
     let end = row_lines::answered(out, at, row, answer);
     flushed(out, end, intact)

@@ -8,13 +8,13 @@ ghost use Prim.Native.Nat.{_+_, _≤_};
 ghost use lib.ListN.{length, drop};
 ghost use Rattle.book.specs.Good.{Good};
 ghost use Rattle.rows.specs.Cut.{cut};
-ghost use Rattle.stream.specs.Output.{AnsweredUpTo};
+ghost use Rattle.stream.specs.Output.{outputRoom, waitingRoom, AnsweredUpTo};
 
 // From a place of a buffer on, the rows that are events on one series, up to the first other row. The book stays where it is: each
 // row changes one series of it, and the blotter.
 pub fn series_rows(input: &[u8], start: usize, out: &mut [u8], replay: Replay) -> Passed
-    requires { ⌜ (Good (replay .book)) × (replay .at ≤ 28608) × (65536 ≤ length (now out)) × (start ≤ length (now input)) ⌝ }
-    ensures { λ r. ⌜ (Good (r .replay .book)) × (r .replay .at ≤ 28608) × (start ≤ r .from) × (r .from ≤ length (now (input .entry))) × AnsweredUpTo replay (now (out .entry)) (cut (drop start (now (input .entry)))) (r .replay) (now (out .exit)) (cut (drop (r .from) (now (input .entry)))) ⌝ }
+    requires { ⌜ (Good (replay .book)) × (replay .at ≤ waitingRoom) × (outputRoom ≤ length (now out)) × (start ≤ length (now input)) ⌝ }
+    ensures { λ r. ⌜ (Good (r .replay .book)) × (r .replay .at ≤ waitingRoom) × (start ≤ r .from) × (r .from ≤ length (now (input .entry))) × AnsweredUpTo replay (now (out .entry)) (cut (drop start (now (input .entry)))) (r .replay) (now (out .exit)) (cut (drop (r .from) (now (input .entry)))) ⌝ }
 {
     let mut book = replay.book;
     let mut row = replay.row;

@@ -8,14 +8,14 @@ use lib.ListN.{length, drop, length-drop}
 use Rattle.book.specs.Good.{Good}
 use Rattle.rows.specs.Cut.{Cut, cut}
 use Rattle.rows.proofs.Ends.{end-fits, no-row}
-use Rattle.stream.specs.Output.{AnsweredUpTo}
+use Rattle.stream.specs.Output.{outputRoom, waitingRoom, AnsweredUpTo}
 use Rattle.stream.proofs.Lines.{up-to-none, up-to-more, row-answered, next-answered, all-answered}
 use Rattle.buffer_rows.proofs.whole_rows.Statement.{statement}
 use Rattle.buffer_rows.proofs.whole_rows.Tie as tie
 
 abbrev Inv-loop : tie.InvT-loop
 Inv-loop input out₀ now₀ from₀ out now from =
-    (Good (now .book)) × (now .at ≤ 28608) × (from ≤ length input) × (length out ≡ length out₀)
+    (Good (now .book)) × (now .at ≤ waitingRoom) × (from ≤ length input) × (length out ≡ length out₀)
     × AnsweredUpTo now₀ out₀ (cut input) now out (cut (drop from input))
 
 abbrev μ-loop : tie.MeasureT-loop
@@ -39,7 +39,7 @@ module _ (c : tie.After-known-told Inv-loop μ-loop) where
       (f .0, omega (arith, simp length-drop at (f .1), r .ensures .3))
 
   -- the room for the lines of one more row
-  room : 65536 ≤ length (top .loop .out)
+  room : outputRoom ≤ length (top .loop .out)
   room = omega (arith, top .loop .inv .3, top .before .before .before .pre .2)
 
 -- the row, from the end of a turn

@@ -8,6 +8,7 @@ use lib.ListN.{length, take}
 use Rattle.book.specs.Good.{Good}
 use Rattle.rows.specs.Cut.{keptBytes}
 use Rattle.report.specs.Lines.{header}
+use Rattle.stream.specs.Output.{outputRoom, waitingRoom}
 use Rattle.stream.proofs.Lines.{put-behind}
 use Rattle.stream.proofs.Turns.{Reached, begins, reached-more, replayed-uncounted, replayed-last}
 use Rattle.replay.proofs.replayed.Statement.{statement}
@@ -15,7 +16,7 @@ use Rattle.replay.proofs.replayed.Tie as tie
 
 abbrev Inv-loop : tie.InvT-loop
 Inv-loop buf₀ out₀ at run₀ turns₀ buf out run turns =
-    (Good (run .replay .book)) × (run .replay .at ≤ 28608) × (run .have ≤ keptBytes) × (65536 ≤ length out) × (length buf ≡ length buf₀) × (length out ≡ length out₀) × Reached (run₀ .replay) out₀ run buf out turns
+    (Good (run .replay .book)) × (run .replay .at ≤ waitingRoom) × (run .have ≤ keptBytes) × (outputRoom ≤ length out) × (length buf ≡ length buf₀) × (length out ≡ length out₀) × Reached (run₀ .replay) out₀ run buf out turns
 
 abbrev μ-loop : tie.MeasureT-loop
 μ-loop buf₀ out₀ at run₀ turns₀ buf out run turns = turns

@@ -16,7 +16,7 @@ use Rattle.book.specs.declared.state.Step.{Step}
 use Rattle.book.proofs.Keeps.{stays-good}
 use Rattle.book.proofs.Effects.{next-record-within, effect-fits, step-stored}
 use Rattle.rows.specs.Cut.{cut}
-use Rattle.stream.specs.Output.{AnsweredUpTo}
+use Rattle.stream.specs.Output.{waitingRoom, AnsweredUpTo}
 use Rattle.stream.specs.declared.types.Passed.{Passed}
 use Rattle.stream.specs.declared.types.Replay.{Replay}
 use Rattle.stream.proofs.Books.{book-accepted, series-line}
@@ -31,7 +31,7 @@ state book row at intact = record { book = book; row = row; at = at; intact = in
 
 abbrev Inv-loop : tie.InvT-loop
 Inv-loop input start out₀ book₀ row₀ at₀ intact₀ from₀ out book row at intact from =
-    (Good book) × (at ≤ 28608) × (start ≤ from) × (from ≤ length input) × (length out ≡ length out₀)
+    (Good book) × (at ≤ waitingRoom) × (start ≤ from) × (from ≤ length input) × (length out ≡ length out₀)
     × AnsweredUpTo (state book₀ row₀ at₀ intact₀) out₀ (cut (drop start input)) (state book row at intact) out (cut (drop from input))
 
 abbrev μ-loop : tie.MeasureT-loop
@@ -56,7 +56,7 @@ module _ (c : tie.After-known-told Inv-loop μ-loop) where
 
 -- what is returned from a turn of the loop
 passed : (l : tie.At-loop Inv-loop μ-loop) (r : Passed) → (r .replay .book ≡ l .loop .book) × (r .replay .at ≡ l .loop .at) × (r .from ≡ l .loop .from) × (r .replay .row ≡ l .loop .row) × (r .replay .intact ≡ l .loop .intact)
-    → (Good (r .replay .book)) × (r .replay .at ≤ 28608) × (l .before .before .before .before .args .start ≤ r .from) × (r .from ≤ length (l .before .before .before .before .args .input .now))
+    → (Good (r .replay .book)) × (r .replay .at ≤ waitingRoom) × (l .before .before .before .before .args .start ≤ r .from) × (r .from ≤ length (l .before .before .before .before .args .input .now))
     × AnsweredUpTo (l .before .before .before .before .args .replay) (l .before .before .before .before .args .out .now)
     (cut (drop (l .before .before .before .before .args .start) (l .before .before .before .before .args .input .now)))
     (r .replay) (l .loop .out) (cut (drop (r .from) (l .before .before .before .before .args .input .now)))
