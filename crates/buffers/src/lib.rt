@@ -16,7 +16,7 @@ ghost use Rattle.rows.specs.Cut.{keptBytes, kept};
 ghost use Rattle.stream.specs.Input.{Within};
 ghost use Rattle.stream.specs.Output.{outputRoom, waitingRoom, waitsOn};
 
-// Reads once behind what is kept, where there is room: a read of no bytes is the input's end.
+// Reads behind what is kept, where there is room: a read of no bytes is the input's end.
 pub fn fill(buf: &mut [u8], have: usize) -> Input
     requires { ⌜ have < length (now buf) ⌝ }
     ensures { λ r. ⌜ (Within have (length (now (buf .entry))) r) × (take have (now (buf .exit)) ≡ take have (now (buf .entry))) ⌝ }
@@ -56,7 +56,7 @@ pub fn up_to(book: Book, row: u64, at: usize, intact: bool, from: usize) -> Pass
     }
 }
 
-// Room for the lines of one more row: where there is none, what waits is written. Once that fails nothing more is.
+// Room for the lines of one more row: where there is none, what waits is let go. It is written, unless a write has failed before.
 pub fn flushed(out: &mut [u8], end: usize, intact: bool) -> Waiting
     requires { ⌜ end ≤ length (now out) ⌝ }
     ensures { λ r. ⌜ (r .at ≤ waitingRoom) × (take (r .at) (now (out .exit)) ≡ waitsOn (take end (now (out .entry)))) × (intact ≡ false → r .intact ≡ false) ⌝ }

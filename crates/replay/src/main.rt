@@ -38,7 +38,7 @@ fn last_row(buf: &[u8], out: &mut [u8], replay: Replay, have: usize) -> Run
     }
 }
 
-// Reads once, and goes through what was read.
+// One turn: what a read gives is gone through.
 fn turn(buf: &mut [u8], out: &mut [u8], run: Run) -> Run
     requires { ⌜ (Good (run .replay .book)) × (run .replay .at ≤ waitingRoom) × (outputRoom ≤ length (now out)) × (run .have ≤ keptBytes) × (keptBytes < length (now buf)) ⌝ }
     ensures { λ r. ⌜ (Good (r .replay .book)) × (r .replay .at ≤ waitingRoom) × (r .have ≤ keptBytes) × Turned run (now (buf .entry)) (now (out .entry)) r (now (buf .exit)) (now (out .exit)) ⌝ }
@@ -56,7 +56,7 @@ fn turn(buf: &mut [u8], out: &mut [u8], run: Run) -> Run
     }
 }
 
-// The header, and then the rows of the whole input, or those up to where reading or writing fails.
+// The header, and then the rows of the whole input, or those up to where the run breaks off.
 fn replayed(buf: &mut [u8], out: &mut [u8]) -> Waiting
     requires { ⌜ (keptBytes < length (now buf)) × (outputRoom ≤ length (now out)) ⌝ }
     ensures { λ r. ⌜ (r .at ≤ waitingRoom) × Replayed (now (out .exit)) r ⌝ }
@@ -91,7 +91,7 @@ fn replayed(buf: &mut [u8], out: &mut [u8]) -> Waiting
     }
 }
 
-// Writes what waits in the output, where all before it was written.
+// Writes what waits in the output, where no write before it has failed.
 fn finish(out: &[u8], waiting: Waiting)
     requires { ⌜ (waiting .at ≤ length (now out)) × Replayed (now out) waiting ⌝ }
 {

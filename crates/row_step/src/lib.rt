@@ -57,7 +57,7 @@ fn event_row(out: &mut [u8], at: usize, intact: bool, row: u64, book: Book, even
     }
 }
 
-// One row: its event is carried out or refused, and its lines are written.
+// One row: its event is carried out or refused, and its lines are put behind what waits.
 pub fn answer_row(bytes: &[u8], out: &mut [u8], replay: Replay) -> Replay
     requires { ⌜ (Good (replay .book)) × (replay .at + rowRoom ≤ length (now out)) ⌝ }
     ensures { λ r. ⌜ (Good (r .book)) × (r .at ≤ replay .at + rowRoom) × (r .row ≡ (replay .row + 1) % 2 ^ 64) × (r .book ≡ bookBy (replay .book) (rowOf (now (bytes .entry)))) × Put (now (out .entry)) (replay .at) (linesBy (r .row) (replay .book) (rowOf (now (bytes .entry)))) (now (out .exit)) (r .at) × (r .intact ≡ replay .intact) ⌝ }

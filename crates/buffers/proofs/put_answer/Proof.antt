@@ -1,4 +1,4 @@
--- `buffers::put_answer` meets its contract: the line stands behind what waited, and then waits on or is written.
+-- `buffers::put_answer` meets its contract: the line stands behind what waited, and then waits on or is let go.
 use borrow.Author.Needs.{needs}
 use mathlib.Core.Path.{ap, _∙_}
 use native.Mathlib.Omega.{arith}
