@@ -13,13 +13,13 @@ ghost use mathlib.Core.List.{_++_};
 ghost use lib.ListN.{length, take, drop};
 ghost use Rattle.report.specs.Report.{answerOf};
 ghost use Rattle.rows.specs.Cut.{keptBytes, kept};
-ghost use Rattle.stream.specs.Input.{Within};
+ghost use Rattle.stream.specs.Input.{InRoom};
 ghost use Rattle.stream.specs.Output.{outputRoom, waitingRoom, waitsOn};
 
 // Reads behind what is kept, where there is room: a read of no bytes is the input's end.
 pub fn fill(buf: &mut [u8], have: usize) -> Input
     requires { ⌜ have < length (now buf) ⌝ }
-    ensures { λ r. ⌜ (Within have (length (now (buf .entry))) r) × (take have (now (buf .exit)) ≡ take have (now (buf .entry))) ⌝ }
+    ensures { λ r. ⌜ (InRoom have (length (now (buf .entry))) r) × (take have (now (buf .exit)) ≡ take have (now (buf .entry))) ⌝ }
 {
     let got = libc::read(0, &mut buf[have..]);
     if got < 0 {

@@ -2,7 +2,7 @@
 use mathlib.Core.Path.{_≡_}
 use Prim.Native.Nat.{ℕ, _≤_, _<_}
 use native.Mathlib.Omega.{arith}
-use Rattle.stream.specs.Input.{Within}
+use Rattle.stream.specs.Input.{InRoom}
 use Rattle.stream.specs.declared.types.Input.{Input}
 use Rattle.stream.specs.declared.types.Input.the-variants.{UpTo}
 use Rattle.stream.proofs.Turns.{behind, turned-piece, turned-end, turned-failure}
@@ -11,8 +11,8 @@ use Rattle.replay.proofs.turn.Statement.{statement}
 use Rattle.replay.proofs.turn.Tie as tie
 
 -- input that goes up to a place of the buffer
-reached : (have n end : ℕ) (r : Input) → Within have n r → r ≡ UpTo end → (have < end) × (end ≤ n)
-unfolding Within
+reached : (have n end : ℕ) (r : Input) → InRoom have n r → r ≡ UpTo end → (have < end) × (end ≤ n)
+unfolding InRoom
 reached have n end r w e = rw e at w
 
 fill-requires : tie.Need-fill-requires
