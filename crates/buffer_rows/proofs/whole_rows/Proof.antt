@@ -126,11 +126,11 @@ loop-again c =
     let r = some k .series-rows in
     let end = k .before .end .given .0 .0 in (
       a .ensures .0,
-      f .ensures .0,
+      f .ensures .room,
       ends k .1,
       omega (arith, a .kept .1, f .kept .0, r .kept .1, top k .loop .inv .3),
       next-answered (input k) (r .result .from) (k .before .before .before .row-end .ensures) (up-to-more (top k .loop .inv .4) (r .ensures .4)) end (k .before .end .given .1)
-          (row-answered {next = a .result .at} (a .ensures .3) (a .ensures .2) (a .ensures .4) (omega (arith, a .ensures .1, r .ensures .1, r .kept .1, room k)) (f .ensures .1) (λ h. f .ensures .2 (a .ensures .5 ∙ h))),
+          (row-answered {next = a .result .at} (a .ensures .3) (a .ensures .2) (a .ensures .4) (omega (arith, a .ensures .1, r .ensures .1, r .kept .1, room k)) (rw (a .ensures .5) at (f .ensures))),
     )
 
 pub whole-rows-spec : {M : Type 1} → statement M

@@ -1,5 +1,5 @@
 -- `replay::last_row` meets its contract.
-use mathlib.Core.Path.{refl, sym, _∙_}
+use mathlib.Core.Path.{refl, sym}
 use native.Mathlib.Omega.{arith}
 use lib.ListN.{take}
 use lib.Seq.{length-take-le}
@@ -32,10 +32,10 @@ returns-2 c =
     let f = c .before .before .flushed in
     let long = length-take-le (s .args .have) (s .args .buf .now) (s .pre .3) in (
       a .ensures .0,
-      omega (arith, f .ensures .0),
+      f .ensures .room,
       omega arith,
       last-some (take (s .args .have) (s .args .buf .now)) (omega (arith, long, c .before .before .before .before .before .before .before .before .before .if1 .left))
-          (row-answered {next = a .result .at} (a .ensures .3) (a .ensures .2) (a .ensures .4) (omega (arith, a .ensures .1, s .pre .1, s .pre .2)) (f .ensures .1) (λ h. f .ensures .2 (a .ensures .5 ∙ h))),
+          (row-answered {next = a .result .at} (a .ensures .3) (a .ensures .2) (a .ensures .4) (omega (arith, a .ensures .1, s .pre .1, s .pre .2)) (rw (a .ensures .5) at (f .ensures))),
       refl,
     )
 

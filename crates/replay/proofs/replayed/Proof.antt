@@ -71,7 +71,7 @@ same-length-2 : tie.Need-same-length-2 Inv-loop μ-loop
 same-length-2 c = omega (arith, c .before .loop .inv .5, c .before .before .before .before .before .header .kept .0)
 
 returns : tie.Need-returns Inv-loop μ-loop
-returns c = (c .before .loop .inv .1, replayed-uncounted (c .before .loop .inv .6) (record { row = refl; book = c .before .before .empty .ensures .0; waits = begun (c .before) }) (c .loop-test .left))
+returns c = (c .before .loop .inv .1, replayed-uncounted (c .before .loop .inv .6) (record { row = refl; book = c .before .before .empty .ensures .0; waits = begun (c .before); intact = refl }) (c .loop-test .left))
 
 same-length-3 : tie.Need-same-length-3 Inv-loop μ-loop
 same-length-3 c = omega (arith, c .before .before .before .before .before .turn .kept .0, c .before .before .before .before .before .before .before .before .before .loop .inv .4)
@@ -83,7 +83,7 @@ returns-2 : tie.Need-returns-2 Inv-loop μ-loop
 returns-2 c =
     let l = c .before .before .before .before .before .before .before .before .before in
     let t = c .before .before .before .before .before .turn in
-    (t .ensures .1, replayed-last (l .loop .inv .6) (record { row = refl; book = l .before .empty .ensures .0; waits = begun l }) (t .ensures .3) (stops _ (c .if1 .taken)))
+    (t .ensures .1, replayed-last (l .loop .inv .6) (record { row = refl; book = l .before .empty .ensures .0; waits = begun l; intact = refl }) (t .ensures .3) (stops _ (c .if1 .taken)))
 
 pub replayed-spec : {M : Type 1} → statement M
 replayed-spec =

@@ -55,14 +55,12 @@ module _ (c : tie.After-known-told Inv-loop μ-loop) where
   row = found _ _ (c .before .before .before .series-row .ensures) _ _ _ (c .before .series .given .1)
 
 -- what is returned from a turn of the loop
-passed : (l : tie.At-loop Inv-loop μ-loop) (r : Passed) → (r .replay .book ≡ l .loop .book) × (r .replay .at ≡ l .loop .at) × (r .from ≡ l .loop .from) × (r .replay .row ≡ l .loop .row) × (r .replay .intact ≡ l .loop .intact)
+passed : (l : tie.At-loop Inv-loop μ-loop) (r : Passed) → r ≡ record { replay = state (l .loop .book) (l .loop .row) (l .loop .at) (l .loop .intact); from = l .loop .from }
     → (Good (r .replay .book)) × (r .replay .at ≤ waitingRoom) × (l .before .before .before .before .args .start ≤ r .from) × (r .from ≤ length (l .before .before .before .before .args .input .now))
     × AnsweredUpTo (l .before .before .before .before .args .replay) (l .before .before .before .before .args .out .now)
     (cut (drop (l .before .before .before .before .args .start) (l .before .before .before .before .args .input .now)))
     (r .replay) (l .loop .out) (cut (drop (r .from) (l .before .before .before .before .args .input .now)))
-passed l r p =
-    let e : r .replay ≡ state (l .loop .book) (l .loop .row) (l .loop .at) (l .loop .intact) = λ i. record { book = p .0 i; row = p .3 i; at = p .1 i; intact = p .4 i } in
-    (rw (p .0) (l .loop .inv .0), omega (arith, p .1, l .loop .inv .1), omega (arith, p .2, l .loop .inv .2), omega (arith, p .2, l .loop .inv .3), rw (e, p .2) (l .loop .inv .5))
+passed l r p = rw p (l .loop .inv .0, l .loop .inv .1, l .loop .inv .2, l .loop .inv .3, l .loop .inv .5)
 
 -- where the effect of its event is known
 module _ (f : tie.After-effect Inv-loop μ-loop) where
@@ -192,14 +190,13 @@ loop-again c =
     let n = c .before .before .before .before .wrapping-add-u64 in
     let w = c .before .before .put-answer in (
       stays-good (l .book) (event o) _ (l .inv .0) s,
-      w .ensures .0,
+      w .ensures .room,
       omega (arith, r .later, l .inv .2),
       r .within,
       omega (arith, w .kept .0, l .inv .4),
       up-to-next (rw (r .first) at (l .inv .5))
           (lines-answered (ap (λ (x : Step). x .book) s ∙ book-accepted (l .book) (r .says)) (n .ensures)
-          (rw (← series-line (n .result) (l .book) (l .inv .0) (event o) (rw (← r .series) (r .room)) (ap (λ (x : Step). x .answer) s) (r .says)) (w .ensures .1))
-          (w .ensures .2)),
+          (rw (← series-line (n .result) (l .book) (l .inv .0) (event o) (rw (← r .series) (r .room)) (ap (λ (x : Step). x .answer) s) (r .says)) (w .ensures))),
     )
 
 pub series-rows-spec : {M : Type 1} → statement M
