@@ -7,18 +7,16 @@ use stream::types::Input;
 use stream::types::Replay;
 use stream::types::Run;
 use stream::types::Waiting;
-ghost use mathlib.Core.Path.{_≡_};
-ghost use mathlib.Core.Bool.{false};
 ghost use Prim.Native.Nat.{_≤_, _<_};
 ghost use lib.ListN.{length, take};
-ghost use Rattle.book.specs.Good.{Good};
-ghost use Rattle.rows.specs.Cut.{lastRow, keptBytes};
-ghost use Rattle.stream.specs.Output.{outputRoom, waitingRoom, Answered, Turned, Replayed};
+ghost use Rattle.rows.specs.Cut.{keptBytes};
+ghost use Rattle.stream.specs.Input.{ending};
+ghost use Rattle.stream.specs.Output.{outputRoom, waitingRoom, Ready, TurnedBy, Turned, Replayed};
 
 // The end of the input: what it left without CRLF is a row.
 fn last_row(buf: &[u8], out: &mut [u8], replay: Replay, have: usize) -> Run
-    requires { ⌜ (Good (replay .book)) × (replay .at ≤ waitingRoom) × (outputRoom ≤ length (now out)) × (have ≤ length (now buf)) ⌝ }
-    ensures { λ r. ⌜ (Good (r .replay .book)) × (r .replay .at ≤ waitingRoom) × (r .have ≤ 0) × Answered replay (now (out .entry)) (lastRow (take have (now (buf .entry)))) (r .replay) (now (out .exit)) × (r .going ≡ false) ⌝ }
+    requires { ⌜ (Ready replay (now out)) × (have ≤ length (now buf)) ⌝ }
+    ensures { λ r. ⌜ TurnedBy ending (take have (now (buf .entry))) replay (now (out .entry)) r (now (buf .entry)) (now (out .exit)) ⌝ }
 {
     if have == 0 {
         return Run {
@@ -40,8 +38,8 @@ fn last_row(buf: &[u8], out: &mut [u8], replay: Replay, have: usize) -> Run
 
 // One turn: what a read gives is gone through.
 fn turn(buf: &mut [u8], out: &mut [u8], run: Run) -> Run
-    requires { ⌜ (Good (run .replay .book)) × (run .replay .at ≤ waitingRoom) × (outputRoom ≤ length (now out)) × (run .have ≤ keptBytes) × (keptBytes < length (now buf)) ⌝ }
-    ensures { λ r. ⌜ (Good (r .replay .book)) × (r .replay .at ≤ waitingRoom) × (r .have ≤ keptBytes) × Turned run (now (buf .entry)) (now (out .entry)) r (now (buf .exit)) (now (out .exit)) ⌝ }
+    requires { ⌜ (Ready (run .replay) (now out)) × (run .have ≤ keptBytes) × (keptBytes < length (now buf)) ⌝ }
+    ensures { λ r. ⌜ Turned run (now (buf .entry)) (now (out .entry)) r (now (buf .exit)) (now (out .exit)) ⌝ }
 {
     let have = run.have;
     let replay = run.replay;

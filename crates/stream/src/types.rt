@@ -1,6 +1,5 @@
 use book::state::Book;
 use book::state::Event;
-ghost use Rattle.rows.specs.Cut.{kept};
 
 // The book, the rows answered so far, the bytes of output that wait to be written, and whether no write before them failed.
 pub struct Replay {
