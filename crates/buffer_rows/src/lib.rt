@@ -37,7 +37,7 @@ fn whole_rows(input: &[u8], out: &mut [u8], replay: Replay) -> Passed
     }
 }
 
-// The rows that end in the buffer, whose input goes up to a place.
+// The rows that end in the buffer, whose input goes up to a place: all of it as one piece.
 pub fn pass(buf: &mut [u8], out: &mut [u8], replay: Replay, end: usize) -> Run
     requires { ⌜ (Ready replay (now out)) × (end ≤ length (now buf)) ⌝ }
     ensures { λ r. ⌜ TurnedBy (piece (take end (now (buf .entry)))) [] replay (now (out .entry)) r (now (buf .exit)) (now (out .exit)) ⌝ }
