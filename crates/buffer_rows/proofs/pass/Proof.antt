@@ -33,7 +33,7 @@ returns c =
     let k = c .before .before .before .keep in
     record {
       ready = w .ready;
-      few = k .ensures .1;
+      few = omega (arith, k .ensures .1);
       within = omega (arith, k .ensures .0, k .kept .0);
       answered = w .answered;
       keeps = k .ensures .2 ∙ ap kept (w .unfinished);

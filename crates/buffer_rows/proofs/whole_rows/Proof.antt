@@ -8,7 +8,7 @@ use lib.ListN.{length, drop, length-drop}
 use Rattle.rows.specs.Cut.{Cut}
 use Rattle.rows.proofs.Ends.{end-fits, no-row}
 use Rattle.stream.specs.Parts.{FirstPassed}
-use Rattle.stream.proofs.Lines.{up-to-none, up-to-more, row-answered, ready-again, next-answered, all-answered}
+use Rattle.stream.proofs.Lines.{up-to-none, up-to-more, row-answered, next-answered, all-answered}
 use Rattle.buffer_rows.proofs.whole_rows.Statement.{statement}
 use Rattle.buffer_rows.proofs.whole_rows.Tie as tie
 
@@ -123,7 +123,7 @@ loop-again c =
     let r = some k .series-rows in (
       omega (arith, a .kept .1, f .kept .0, r .kept .1, top k .loop .inv .0),
       record {
-        ready = ready-again (r .ensures .ready) (a .ensures) (f .ensures) (omega (arith, a .kept .1, f .kept .0));
+        ready = record { good = a .ensures .good; waiting = f .ensures .room; room = omega (arith, a .kept .1, f .kept .0, r .ensures .ready .room) };
         later = omega arith;
         within = ends k .1;
         answered = next-answered (input k) (r .result .from) (k .before .before .before .row-end .ensures) (up-to-more (top k .loop .inv .1 .answered) (r .ensures .answered))

@@ -4,7 +4,7 @@ use native.Mathlib.Omega.{arith}
 use lib.ListN.{take}
 use lib.Seq.{length-take-le}
 use Rattle.stream.specs.Input.{rowsBy, keptBy, goesOn}
-use Rattle.stream.proofs.Lines.{row-answered, ready-again, last-none, last-some}
+use Rattle.stream.proofs.Lines.{row-answered, last-none, last-some}
 use borrow.Author.Needs.{needs}
 use Rattle.replay.proofs.last_row.Statement.{statement}
 use Rattle.replay.proofs.last_row.Tie as tie
@@ -42,7 +42,7 @@ returns-2 c =
     let f = c .before .before .flushed in
     let long = length-take-le (s .args .have) (s .args .buf .now) (s .pre .1) in
     record {
-      ready = ready-again (s .pre .0) (a .ensures) (f .ensures) (omega (arith, a .kept .1, f .kept .0));
+      ready = record { good = a .ensures .good; waiting = omega (arith, f .ensures .room); room = omega (arith, a .kept .1, f .kept .0, s .pre .0 .room) };
       few = omega arith;
       within = omega arith;
       answered = last-some (take (s .args .have) (s .args .buf .now)) (omega (arith, long, c .before .before .before .before .before .before .before .before .before .if1 .left))

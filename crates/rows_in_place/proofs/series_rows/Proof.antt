@@ -190,12 +190,12 @@ loop-again c =
     let k : length (w .last .0) ≡ length (l .out) = w .kept .0 in (
       omega (arith, k, l .inv .0),
       record {
-        ready = record { good = stays-good (l .book) (event o) _ (good o) s; waiting = w .ensures .room; room = omega (arith, k, p .ready .room) };
-        later = omega (arith, r .later, p .later);
-        within = r .within;
         answered = up-to-next (rw (r .first) at (p .answered))
             (lines-answered (ap (λ (x : Step). x .book) s ∙ book-accepted (l .book) (r .says)) (n .ensures)
             (rw (← series-line (n .result) (l .book) (good o) (event o) (rw (← r .series) (r .room)) (ap (λ (x : Step). x .answer) s) (r .says)) (w .ensures)));
+        ready = record { good = stays-good (l .book) (event o) _ (good o) s; waiting = w .ensures .room; room = omega (arith, k, p .ready .room) };
+        later = omega (arith, r .later, p .later);
+        within = r .within;
       },
     )
 
