@@ -44,15 +44,15 @@ pub record RowPut (from : Replay) (before row : List ℕ) (to : Replay) (after :
 
 -- From a place of a buffer of input on, the first rows are answered, up to the place where the others start.
 pub record FirstPassed (input : List ℕ) (start : ℕ) (from : Replay) (before : List ℕ) (to : Passed) (after : List ℕ) : Type 0 where
-  pub ready : Ready (to .replay) after
+  pub answered : AnsweredUpTo from before (cut (drop start input)) (to .replay) after (cut (drop (to .from) input))
   pub later : start ≤ to .from
   pub within : to .from ≤ length input
-  pub answered : AnsweredUpTo from before (cut (drop start input)) (to .replay) after (cut (drop (to .from) input))
+  pub ready : Ready (to .replay) after
 
 -- All rows that end in a buffer of input are answered, up to the place where the unfinished one starts.
 pub record AllPassed (input : List ℕ) (from : Replay) (before : List ℕ) (to : Passed) (after : List ℕ) : Type 0 where
-  pub ready : Ready (to .replay) after
-  pub within : to .from ≤ length input
+  pub answered : Answered from before (cut input .rows) (to .replay) after
   pub none : cut (drop (to .from) input) .rows ≡ []
   pub unfinished : drop (to .from) input ≡ cut input .rest
-  pub answered : Answered from before (cut input .rows) (to .replay) after
+  pub within : to .from ≤ length input
+  pub ready : Ready (to .replay) after

@@ -32,12 +32,12 @@ returns c =
     let w = c .before .before .before .before .before .before .before .whole-rows .ensures in
     let k = c .before .before .before .keep in
     record {
-      ready = w .ready;
-      few = omega (arith, k .ensures .1);
-      within = omega (arith, k .ensures .0, k .kept .0);
       answered = w .answered;
       keeps = k .ensures .2 ∙ ap kept (w .unfinished);
+      few = omega (arith, k .ensures .1);
+      within = omega (arith, k .ensures .0, k .kept .0);
       going = refl;
+      ready = w .ready;
     }
 
 pub pass-spec : {M : Type 1} → statement M

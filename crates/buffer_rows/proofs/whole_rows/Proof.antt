@@ -46,7 +46,7 @@ row-of c = c .before .before .before .before .before .before .before .before .be
 loop-holds : tie.Need-loop-holds Inv-loop μ-loop
 loop-holds c =
     let s = c .before .before in
-    (refl, record { ready = s .pre; later = omega arith; within = omega arith; answered = up-to-none (s .args .replay) (s .args .out .now) _ })
+    (refl, record { answered = up-to-none (s .args .replay) (s .args .out .now) _; later = omega arith; within = omega arith; ready = s .pre })
 
 series-rows-requires : tie.Need-series-rows-requires Inv-loop μ-loop
 series-rows-requires c κs =
@@ -77,11 +77,11 @@ returns c =
     let buffer = l .before .before .before .args .input .now in
     let all = all-answered buffer (r .result .from) e (up-to-more (l .loop .inv .1 .answered) (r .ensures .answered)) q in
     record {
-      ready = r .ensures .ready;
-      within = r .ensures .within;
+      answered = all .1;
       none = ap (λ (k : Cut). k .rows) (no-row buffer (r .result .from) _ e q);
       unfinished = all .0;
-      answered = all .1;
+      within = r .ensures .within;
+      ready = r .ensures .ready;
     }
 
 -- ---- the other row, and the next turn
@@ -123,11 +123,11 @@ loop-again c =
     let r = some k .series-rows in (
       omega (arith, a .kept .1, f .kept .0, r .kept .1, top k .loop .inv .0),
       record {
-        ready = record { good = a .ensures .good; waiting = f .ensures .room; room = omega (arith, a .kept .1, f .kept .0, r .ensures .ready .room) };
-        later = omega arith;
-        within = ends k .1;
         answered = next-answered (input k) (r .result .from) (k .before .before .before .row-end .ensures) (up-to-more (top k .loop .inv .1 .answered) (r .ensures .answered))
             (k .before .end .given .0 .0) (k .before .end .given .1) (row-answered (r .ensures .ready) (a .ensures) (f .ensures));
+        later = omega arith;
+        within = ends k .1;
+        ready = record { good = a .ensures .good; waiting = f .ensures .room; room = omega (arith, a .kept .1, f .kept .0, r .ensures .ready .room) };
       },
     )
 

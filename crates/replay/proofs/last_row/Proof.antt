@@ -14,12 +14,12 @@ unfolding rowsBy keptBy goesOn
 returns c =
     let s = c .before .before .before in
     record {
-      ready = s .pre .0;
-      few = omega arith;
-      within = omega arith;
       answered = last-none (s .args .replay) (s .args .out .now) (s .args .buf .now) (s .args .have) (c .if1 .taken);
       keeps = refl;
+      few = omega arith;
+      within = omega arith;
       going = refl;
+      ready = s .pre .0;
     }
 
 slice-aggregate-answer-row : tie.Need-slice-aggregate-answer-row
@@ -42,13 +42,13 @@ returns-2 c =
     let f = c .before .before .flushed in
     let long = length-take-le (s .args .have) (s .args .buf .now) (s .pre .1) in
     record {
-      ready = record { good = a .ensures .good; waiting = omega (arith, f .ensures .room); room = omega (arith, a .kept .1, f .kept .0, s .pre .0 .room) };
-      few = omega arith;
-      within = omega arith;
       answered = last-some (take (s .args .have) (s .args .buf .now)) (omega (arith, long, c .before .before .before .before .before .before .before .before .before .if1 .left))
           (row-answered (s .pre .0) (a .ensures) (f .ensures));
       keeps = refl;
+      few = omega arith;
+      within = omega arith;
       going = refl;
+      ready = record { good = a .ensures .good; waiting = omega (arith, f .ensures .room); room = omega (arith, a .kept .1, f .kept .0, s .pre .0 .room) };
     }
 
 pub last-row-spec : {M : Type 1} → statement M

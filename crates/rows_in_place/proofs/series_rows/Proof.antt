@@ -78,7 +78,7 @@ answer-of c = c .before .before .before .before .before
 loop-holds : tie.Need-loop-holds Inv-loop μ-loop
 loop-holds c =
     let s = c .before .before .before in
-    (refl, record { ready = s .pre .0; later = omega arith; within = s .pre .1; answered = up-to-none (s .args .replay) (s .args .out .now) _ })
+    (refl, record { answered = up-to-none (s .args .replay) (s .args .out .now) _; later = omega arith; within = s .pre .1; ready = s .pre .0 })
 
 series-row-requires : tie.Need-series-row-requires Inv-loop μ-loop
 series-row-requires c κs = search needs
@@ -193,9 +193,9 @@ loop-again c =
         answered = up-to-next (rw (r .first) at (p .answered))
             (lines-answered (ap (λ (x : Step). x .book) s ∙ book-accepted (l .book) (r .says)) (n .ensures)
             (rw (← series-line (n .result) (l .book) (good o) (event o) (rw (← r .series) (r .room)) (ap (λ (x : Step). x .answer) s) (r .says)) (w .ensures)));
-        ready = record { good = stays-good (l .book) (event o) _ (good o) s; waiting = w .ensures .room; room = omega (arith, k, p .ready .room) };
         later = omega (arith, r .later, p .later);
         within = r .within;
+        ready = record { good = stays-good (l .book) (event o) _ (good o) s; waiting = w .ensures .room; room = omega (arith, k, p .ready .room) };
       },
     )
 
