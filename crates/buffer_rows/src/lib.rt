@@ -7,18 +7,17 @@ use rows_in_place::series_rows;
 use stream::types::Passed;
 use stream::types::Replay;
 use stream::types::Run;
-ghost use mathlib.Core.Path.{_≡_};
 ghost use mathlib.Core.List.{[]};
-ghost use Prim.Native.Nat.{_+_, _≤_};
-ghost use lib.ListN.{length, take, drop};
-ghost use Rattle.book.specs.Good.{Good};
-ghost use Rattle.rows.specs.Cut.{cut, keptBytes, kept};
-ghost use Rattle.stream.specs.Output.{Answered};
+ghost use Prim.Native.Nat.{_≤_};
+ghost use lib.ListN.{length, take};
+ghost use Rattle.stream.specs.Input.{piece};
+ghost use Rattle.stream.specs.Output.{Ready, TurnedBy};
+ghost use Rattle.stream.specs.Parts.{AllPassed};
 
 // The rows of a buffer that end in it.
 fn whole_rows(input: &[u8], out: &mut [u8], replay: Replay) -> Passed
-    requires { ⌜ (Good (replay .book)) × (replay .at ≤ 28608) × (65536 ≤ length (now out)) ⌝ }
-    ensures { λ r. ⌜ (Good (r .replay .book)) × (r .replay .at ≤ 28608) × (r .from ≤ length (now (input .entry))) × (cut (drop (r .from) (now (input .entry))) .rows ≡ []) × (drop (r .from) (now (input .entry)) ≡ cut (now (input .entry)) .rest) × Answered replay (now (out .entry)) (cut (now (input .entry)) .rows) (r .replay) (now (out .exit)) ⌝ }
+    requires { ⌜ Ready replay (now out) ⌝ }
+    ensures { λ r. ⌜ AllPassed (now (input .entry)) replay (now (out .entry)) r (now (out .exit)) ⌝ }
 {
     let mut now = replay;
     let mut from = 0;
@@ -38,10 +37,10 @@ fn whole_rows(input: &[u8], out: &mut [u8], replay: Replay) -> Passed
     }
 }
 
-// The rows that end in the buffer, whose input goes up to a place.
+// The rows that end in the buffer, whose input goes up to a place: all of it as one piece.
 pub fn pass(buf: &mut [u8], out: &mut [u8], replay: Replay, end: usize) -> Run
-    requires { ⌜ (Good (replay .book)) × (replay .at ≤ 28608) × (65536 ≤ length (now out)) × (end ≤ length (now buf)) ⌝ }
-    ensures { λ r. ⌜ (Good (r .replay .book)) × (r .replay .at ≤ 28608) × (r .have ≤ length (now (buf .entry))) × (r .have ≤ keptBytes) × Answered replay (now (out .entry)) (cut (take end (now (buf .entry))) .rows) (r .replay) (now (out .exit)) × (take (r .have) (now (buf .exit)) ≡ kept (cut (take end (now (buf .entry))) .rest)) × (r .going ≡ r .replay .intact) ⌝ }
+    requires { ⌜ (Ready replay (now out)) × (end ≤ length (now buf)) ⌝ }
+    ensures { λ r. ⌜ TurnedBy (piece (take end (now (buf .entry)))) [] replay (now (out .entry)) r (now (buf .exit)) (now (out .exit)) ⌝ }
 {
     let passed = whole_rows(&buf[..end], out, replay);
     let left = keep(buf, passed.from, end);

@@ -1,24 +1,25 @@
 // The buffers of a replay: input that is read and kept, output that waits, and the replay up to a place of its input.
 use book::state::Answer;
 use book::state::Book;
+use stream::bounds::WAITING_ROOM;
 use stream::types::Input;
 use stream::types::Passed;
 use stream::types::Replay;
 use stream::types::Waiting;
 ghost use Prim.Native.Nat.{_≤_, _<_, _+_};
 ghost use mathlib.Core.Path.{_≡_};
-ghost use mathlib.Core.Bool.{false};
 ghost use mathlib.Core.List.{_++_};
 ghost use lib.ListN.{length, take, drop};
 ghost use Rattle.report.specs.Report.{answerOf};
 ghost use Rattle.rows.specs.Cut.{keptBytes, kept};
-ghost use Rattle.stream.specs.Input.{Within};
-ghost use Rattle.stream.specs.Output.{waitsOn};
+ghost use Rattle.stream.specs.Input.{InRoom};
+ghost use Rattle.stream.specs.Output.{outputRoom, waitingRoom};
+ghost use Rattle.stream.specs.Parts.{Flushed};
 
-// Reads once behind what is kept, where there is room: a read of no bytes is the input's end.
+// Reads behind what is kept, where there is room: a read of no bytes is the input's end.
 pub fn fill(buf: &mut [u8], have: usize) -> Input
     requires { ⌜ have < length (now buf) ⌝ }
-    ensures { λ r. ⌜ (Within have (length (now (buf .entry))) r) × (take have (now (buf .exit)) ≡ take have (now (buf .entry))) ⌝ }
+    ensures { λ r. ⌜ (InRoom have (length (now (buf .entry))) r) × (take have (now (buf .exit)) ≡ take have (now (buf .entry))) ⌝ }
 {
     let got = libc::read(0, &mut buf[have..]);
     if got < 0 {
@@ -42,25 +43,26 @@ pub fn keep(buf: &mut [u8], from: usize, end: usize) -> usize
 
 // The replay up to a place of its buffer.
 pub fn up_to(book: Book, row: u64, at: usize, intact: bool, from: usize) -> Passed
-    ensures { λ r. ⌜ (r .replay .book ≡ book) × (r .replay .at ≡ at) × (r .from ≡ from) × (r .replay .row ≡ row) × (r .replay .intact ≡ intact) ⌝ }
+    ensures { λ r. ⌜ r ≡ record { replay = record { book = book; row = row; at = at; intact = intact }; from = from } ⌝ }
 {
+    let replay = Replay {
+        book: book,
+        row: row,
+        at: at,
+        intact: intact,
+    };
     Passed {
-        replay: Replay {
-            book: book,
-            row: row,
-            at: at,
-            intact: intact,
-        },
+        replay: replay,
         from: from,
     }
 }
 
-// Room for the lines of one more row: where there is none, what waits is written. Once that fails nothing more is.
+// Room for the lines of one more row: where there is none, what waits is let go. It is written, unless a write has failed before.
 pub fn flushed(out: &mut [u8], end: usize, intact: bool) -> Waiting
     requires { ⌜ end ≤ length (now out) ⌝ }
-    ensures { λ r. ⌜ (r .at ≤ 28608) × (take (r .at) (now (out .exit)) ≡ waitsOn (take end (now (out .entry)))) × (intact ≡ false → r .intact ≡ false) ⌝ }
+    ensures { λ r. ⌜ Flushed (take end (now (out .entry))) intact r (now (out .exit)) ⌝ }
 {
-    if end <= 28608 {
+    if end <= WAITING_ROOM {
         return Waiting {
             at: end,
             intact: intact,
@@ -81,8 +83,8 @@ pub fn flushed(out: &mut [u8], end: usize, intact: bool) -> Waiting
 
 // The line of an answer behind what waits.
 pub fn put_answer(out: &mut [u8], at: usize, row: u64, answer: Answer, intact: bool) -> Waiting
-    requires { ⌜ (at ≤ 28608) × (65536 ≤ length (now out)) ⌝ }
-    ensures { λ r. ⌜ (r .at ≤ 28608) × (take (r .at) (now (out .exit)) ≡ waitsOn (take at (now (out .entry)) ++ answerOf row answer)) × (intact ≡ false → r .intact ≡ false) ⌝ }
+    requires { ⌜ (at ≤ waitingRoom) × (outputRoom ≤ length (now out)) ⌝ }
+    ensures { λ r. ⌜ Flushed (take at (now (out .entry)) ++ answerOf row answer) intact r (now (out .exit)) ⌝ }
 {
     let end = row_lines::answered(out, at, row, answer);
     flushed(out, end, intact)

@@ -1,4 +1,4 @@
-// One line of the output, of at most 64 bytes. Each function puts its text at a place of the buffer and returns the place after it.
+// One line of the output. Each function puts its text at a place of the buffer and returns the place after it.
 use book::state::Found;
 ghost use mathlib.Core.List.{[], _∷_, _++_};
 ghost use Prim.Native.Nat.{_+_, _≤_};
@@ -10,18 +10,18 @@ ghost use Rattle.report.specs.Report as rule;
 
 // The line that the output begins with.
 pub fn header(out: &mut [u8], at: usize) -> usize
-    requires { ⌜ at + 64 ≤ length (now out) ⌝ }
+    requires { ⌜ at + text.lineRoom ≤ length (now out) ⌝ }
     ensures { λ r. ⌜ Put (now (out .entry)) at text.header (now (out .exit)) r ⌝ }
-    ensures { λ r. ⌜ r ≤ at + 64 ⌝ }
+    ensures { λ r. ⌜ r ≤ at + text.lineRoom ⌝ }
 {
     put::bytes(out, at, b"row,kind,series,account,amount\r\n")
 }
 
 // The number of an answer, with the series that it names.
 pub fn answer(out: &mut [u8], at: usize, row: u64, found: Found, number: u64) -> usize
-    requires { ⌜ at + 64 ≤ length (now out) ⌝ }
+    requires { ⌜ at + text.lineRoom ≤ length (now out) ⌝ }
     ensures { λ r. ⌜ Put (now (out .entry)) at (rule.answerLine row found number) (now (out .exit)) r ⌝ }
-    ensures { λ r. ⌜ r ≤ at + 64 ⌝ }
+    ensures { λ r. ⌜ r ≤ at + text.lineRoom ⌝ }
 {
     let series = line_fields::begin(out, at, row, b'A');
     let commas = line_fields::series(out, series, found);
@@ -32,9 +32,9 @@ pub fn answer(out: &mut [u8], at: usize, row: u64, found: Found, number: u64) ->
 
 // The money of an account, where it is not 0.
 pub fn money(out: &mut [u8], at: usize, row: u64, a: u8, amount: i64) -> usize
-    requires { ⌜ at + 64 ≤ length (now out) ⌝ }
+    requires { ⌜ at + text.lineRoom ≤ length (now out) ⌝ }
     ensures { λ r. ⌜ Put (now (out .entry)) at (rule.moneyLine row a amount) (now (out .exit)) r ⌝ }
-    ensures { λ r. ⌜ r ≤ at + 64 ⌝ }
+    ensures { λ r. ⌜ r ≤ at + text.lineRoom ⌝ }
 {
     if amount == 0 {
         return at;
@@ -47,9 +47,9 @@ pub fn money(out: &mut [u8], at: usize, row: u64, a: u8, amount: i64) -> usize
 
 // The futures that arose for an account in series i, where there are any.
 pub fn futures(out: &mut [u8], at: usize, row: u64, i: u8, a: u8, arisen: i64) -> usize
-    requires { ⌜ at + 64 ≤ length (now out) ⌝ }
+    requires { ⌜ at + text.lineRoom ≤ length (now out) ⌝ }
     ensures { λ r. ⌜ Put (now (out .entry)) at (rule.futuresLine row i a arisen) (now (out .exit)) r ⌝ }
-    ensures { λ r. ⌜ r ≤ at + 64 ⌝ }
+    ensures { λ r. ⌜ r ≤ at + text.lineRoom ⌝ }
 {
     if arisen == 0 {
         return at;

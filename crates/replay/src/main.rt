@@ -7,18 +7,16 @@ use stream::types::Input;
 use stream::types::Replay;
 use stream::types::Run;
 use stream::types::Waiting;
-ghost use mathlib.Core.Path.{_≡_};
-ghost use mathlib.Core.Bool.{false};
 ghost use Prim.Native.Nat.{_≤_, _<_};
 ghost use lib.ListN.{length, take};
-ghost use Rattle.book.specs.Good.{Good};
-ghost use Rattle.rows.specs.Cut.{lastRow, keptBytes};
-ghost use Rattle.stream.specs.Output.{Answered, Turned, Replayed};
+ghost use Rattle.rows.specs.Cut.{keptBytes};
+ghost use Rattle.stream.specs.Input.{ending};
+ghost use Rattle.stream.specs.Output.{outputRoom, waitingRoom, Ready, TurnedBy, Turned, Replayed};
 
 // The end of the input: what it left without CRLF is a row.
 fn last_row(buf: &[u8], out: &mut [u8], replay: Replay, have: usize) -> Run
-    requires { ⌜ (Good (replay .book)) × (replay .at ≤ 28608) × (65536 ≤ length (now out)) × (have ≤ length (now buf)) ⌝ }
-    ensures { λ r. ⌜ (Good (r .replay .book)) × (r .replay .at ≤ 28608) × (r .have ≤ 0) × Answered replay (now (out .entry)) (lastRow (take have (now (buf .entry)))) (r .replay) (now (out .exit)) × (r .going ≡ false) ⌝ }
+    requires { ⌜ (Ready replay (now out)) × (have ≤ length (now buf)) ⌝ }
+    ensures { λ r. ⌜ TurnedBy ending (take have (now (buf .entry))) replay (now (out .entry)) r (now (buf .entry)) (now (out .exit)) ⌝ }
 {
     if have == 0 {
         return Run {
@@ -38,10 +36,10 @@ fn last_row(buf: &[u8], out: &mut [u8], replay: Replay, have: usize) -> Run
     }
 }
 
-// Reads once, and goes through what was read.
+// One turn: what a read gives is gone through.
 fn turn(buf: &mut [u8], out: &mut [u8], run: Run) -> Run
-    requires { ⌜ (Good (run .replay .book)) × (run .replay .at ≤ 28608) × (65536 ≤ length (now out)) × (run .have ≤ keptBytes) × (keptBytes < length (now buf)) ⌝ }
-    ensures { λ r. ⌜ (Good (r .replay .book)) × (r .replay .at ≤ 28608) × (r .have ≤ keptBytes) × Turned run (now (buf .entry)) (now (out .entry)) r (now (buf .exit)) (now (out .exit)) ⌝ }
+    requires { ⌜ (Ready (run .replay) (now out)) × (run .have ≤ keptBytes) × (keptBytes < length (now buf)) ⌝ }
+    ensures { λ r. ⌜ Turned run (now (buf .entry)) (now (out .entry)) r (now (buf .exit)) (now (out .exit)) ⌝ }
 {
     let have = run.have;
     let replay = run.replay;
@@ -56,10 +54,10 @@ fn turn(buf: &mut [u8], out: &mut [u8], run: Run) -> Run
     }
 }
 
-// The header, and then the rows of the whole input, or those up to where reading or writing fails.
+// The header, and then the rows of the whole input, or those up to where the run breaks off.
 fn replayed(buf: &mut [u8], out: &mut [u8]) -> Waiting
-    requires { ⌜ (keptBytes < length (now buf)) × (65536 ≤ length (now out)) ⌝ }
-    ensures { λ r. ⌜ (r .at ≤ 28608) × Replayed (now (out .exit)) r ⌝ }
+    requires { ⌜ (keptBytes < length (now buf)) × (outputRoom ≤ length (now out)) ⌝ }
+    ensures { λ r. ⌜ (r .at ≤ waitingRoom) × Replayed (now (out .exit)) r ⌝ }
 {
     let at = lines::header(out, 0);
     let book = clearing::empty();
@@ -91,7 +89,7 @@ fn replayed(buf: &mut [u8], out: &mut [u8]) -> Waiting
     }
 }
 
-// Writes what waits in the output, where all before it was written.
+// Writes what waits in the output, where no write before it has failed.
 fn finish(out: &[u8], waiting: Waiting)
     requires { ⌜ (waiting .at ≤ length (now out)) × Replayed (now out) waiting ⌝ }
 {
@@ -103,8 +101,8 @@ fn finish(out: &[u8], waiting: Waiting)
 }
 
 fn with_input(out: &mut [u8]) -> Waiting
-    requires { ⌜ 65536 ≤ length (now out) ⌝ }
-    ensures { λ r. ⌜ (r .at ≤ 28608) × Replayed (now (out .exit)) r ⌝ }
+    requires { ⌜ outputRoom ≤ length (now out) ⌝ }
+    ensures { λ r. ⌜ (r .at ≤ waitingRoom) × Replayed (now (out .exit)) r ⌝ }
 {
     let mut space = io::large_buffer();
     let buf: &mut [u8] = &mut space;

@@ -8,13 +8,14 @@ use terms::bounds::SERIES;
 ghost use Prim.Native.Nat.{_+_, _≤_};
 ghost use lib.ListN.{length};
 ghost use Rattle.decimal.specs.Put.{Put};
+ghost use Rattle.report.specs.Lines as text;
 ghost use Rattle.report.specs.Report as rule;
 
 // The line of an answer.
 pub fn answered(out: &mut [u8], at: usize, row: u64, answer: Answer) -> usize
-    requires { ⌜ at + 64 ≤ length (now out) ⌝ }
+    requires { ⌜ at + text.lineRoom ≤ length (now out) ⌝ }
     ensures { λ r. ⌜ Put (now (out .entry)) at (rule.answerOf row answer) (now (out .exit)) r ⌝ }
-    ensures { λ r. ⌜ r ≤ at + 64 ⌝ }
+    ensures { λ r. ⌜ r ≤ at + text.lineRoom ⌝ }
 {
     let found = answers::named(answer);
     let number = answers::answer_number(answer);
@@ -23,9 +24,9 @@ pub fn answered(out: &mut [u8], at: usize, row: u64, answer: Answer) -> usize
 
 // The money of all accounts.
 pub fn money(out: &mut [u8], at: usize, row: u64, money: [i64; ACCOUNTS]) -> usize
-    requires { ⌜ at + 4096 ≤ length (now out) ⌝ }
+    requires { ⌜ at + rule.accountsRoom ≤ length (now out) ⌝ }
     ensures { λ r. ⌜ Put (now (out .entry)) at (rule.moneyLines row money) (now (out .exit)) r ⌝ }
-    ensures { λ r. ⌜ r ≤ at + 4096 ⌝ }
+    ensures { λ r. ⌜ r ≤ at + rule.accountsRoom ⌝ }
 {
     let mut next = at;
     let mut a: usize = 0;
@@ -45,9 +46,9 @@ fn series_futures(
     before: [i32; PLACES],
     after: [i32; PLACES],
 ) -> usize
-    requires { ⌜ at + 4096 ≤ length (now out) ⌝ }
+    requires { ⌜ at + rule.accountsRoom ≤ length (now out) ⌝ }
     ensures { λ r. ⌜ Put (now (out .entry)) at (rule.seriesLines row i before after) (now (out .exit)) r ⌝ }
-    ensures { λ r. ⌜ r ≤ at + 4096 ⌝ }
+    ensures { λ r. ⌜ r ≤ at + rule.accountsRoom ⌝ }
 {
     let mut next = at;
     let mut a: usize = 0;
@@ -67,9 +68,9 @@ pub fn futures(
     before: [Series; SERIES],
     after: [Series; SERIES],
 ) -> usize
-    requires { ⌜ at + 32768 ≤ length (now out) ⌝ }
+    requires { ⌜ at + rule.futuresRoom ≤ length (now out) ⌝ }
     ensures { λ r. ⌜ Put (now (out .entry)) at (rule.futuresLines row before after) (now (out .exit)) r ⌝ }
-    ensures { λ r. ⌜ r ≤ at + 32768 ⌝ }
+    ensures { λ r. ⌜ r ≤ at + rule.futuresRoom ⌝ }
 {
     let mut next = at;
     let mut i: usize = 0;
@@ -86,9 +87,9 @@ pub fn futures(
 
 // All lines of a row: its answer, the money of all accounts, and the futures that arose. `before` is the series before its step.
 pub fn report(out: &mut [u8], at: usize, row: u64, before: [Series; SERIES], step: Step) -> usize
-    requires { ⌜ at + 36928 ≤ length (now out) ⌝ }
+    requires { ⌜ at + rule.rowRoom ≤ length (now out) ⌝ }
     ensures { λ r. ⌜ Put (now (out .entry)) at (rule.reportOf row before step) (now (out .exit)) r ⌝ }
-    ensures { λ r. ⌜ r ≤ at + 36928 ⌝ }
+    ensures { λ r. ⌜ r ≤ at + rule.rowRoom ⌝ }
 {
     let answer = step.answer;
     let paid = step.money;

@@ -7,14 +7,11 @@ use rows::types::Row;
 use stream::types::Replay;
 ghost use mathlib.Core.Path.{_≡_};
 ghost use mathlib.Core.Bool.{false};
-ghost use Prim.Native.Nat.{_+_, _%_, _^_, _≤_};
+ghost use Prim.Native.Nat.{_+_, _≤_};
 ghost use lib.ListN.{length};
 ghost use Rattle.book.specs.Good.{Good};
-ghost use Rattle.book.specs.Step.{stepOf};
-ghost use Rattle.decimal.specs.Put.{Put};
-ghost use Rattle.report.specs.Report.{isSession, reportOf};
-ghost use Rattle.rows.specs.Row.{rowOf};
-ghost use Rattle.stream.specs.Rows.{bookBy, linesBy};
+ghost use Rattle.report.specs.Report.{isSession, rowRoom};
+ghost use Rattle.stream.specs.Parts.{EventPut, RowPut};
 
 // A session: its step, and all its lines.
 fn session_row(
@@ -25,8 +22,8 @@ fn session_row(
     book: Book,
     event: Event,
 ) -> Replay
-    requires { ⌜ (Good book) × (at + 36928 ≤ length (now out)) ⌝ }
-    ensures { λ r. ⌜ (Good (r .book)) × (r .at ≤ at + 36928) × (r .row ≡ row) × (r .book ≡ stepOf book event .book) × Put (now (out .entry)) at (reportOf row (book .series) (stepOf book event)) (now (out .exit)) (r .at) × (r .intact ≡ intact) ⌝ }
+    requires { ⌜ (Good book) × (at + rowRoom ≤ length (now out)) ⌝ }
+    ensures { λ r. ⌜ EventPut row book event intact (now (out .entry)) at r (now (out .exit)) ⌝ }
 {
     let before = book.series;
     let step = clearing::step(book, event);
@@ -42,8 +39,8 @@ fn session_row(
 
 // An event that is no session: its step, and its answer, which is all its report.
 fn event_row(out: &mut [u8], at: usize, intact: bool, row: u64, book: Book, event: Event) -> Replay
-    requires { ⌜ (Good book) × (at + 36928 ≤ length (now out)) × (isSession event ≡ false) ⌝ }
-    ensures { λ r. ⌜ (Good (r .book)) × (r .at ≤ at + 36928) × (r .row ≡ row) × (r .book ≡ stepOf book event .book) × Put (now (out .entry)) at (reportOf row (book .series) (stepOf book event)) (now (out .exit)) (r .at) × (r .intact ≡ intact) ⌝ }
+    requires { ⌜ (Good book) × (at + rowRoom ≤ length (now out)) × (isSession event ≡ false) ⌝ }
+    ensures { λ r. ⌜ EventPut row book event intact (now (out .entry)) at r (now (out .exit)) ⌝ }
 {
     let step = clearing::step(book, event);
     let answer = step.answer;
@@ -57,10 +54,10 @@ fn event_row(out: &mut [u8], at: usize, intact: bool, row: u64, book: Book, even
     }
 }
 
-// One row: its event is carried out or refused, and its lines are written.
+// One row: its event is carried out or refused, and its lines are put behind what waits.
 pub fn answer_row(bytes: &[u8], out: &mut [u8], replay: Replay) -> Replay
-    requires { ⌜ (Good (replay .book)) × (replay .at + 36928 ≤ length (now out)) ⌝ }
-    ensures { λ r. ⌜ (Good (r .book)) × (r .at ≤ replay .at + 36928) × (r .row ≡ (replay .row + 1) % 2 ^ 64) × (r .book ≡ bookBy (replay .book) (rowOf (now (bytes .entry)))) × Put (now (out .entry)) (replay .at) (linesBy (r .row) (replay .book) (rowOf (now (bytes .entry)))) (now (out .exit)) (r .at) × (r .intact ≡ replay .intact) ⌝ }
+    requires { ⌜ (Good (replay .book)) × (replay .at + rowRoom ≤ length (now out)) ⌝ }
+    ensures { λ r. ⌜ RowPut replay (now (out .entry)) (now (bytes .entry)) r (now (out .exit)) ⌝ }
 {
     let row = std::num::wrapping_add_u64(replay.row, 1);
     let book = replay.book;

@@ -4,17 +4,16 @@ use buffers::up_to;
 use stream::types::Passed;
 use stream::types::Replay;
 use stream::types::SeriesRow;
-ghost use Prim.Native.Nat.{_+_, _≤_};
-ghost use lib.ListN.{length, drop};
-ghost use Rattle.book.specs.Good.{Good};
-ghost use Rattle.rows.specs.Cut.{cut};
-ghost use Rattle.stream.specs.Output.{AnsweredUpTo};
+ghost use Prim.Native.Nat.{_≤_};
+ghost use lib.ListN.{length};
+ghost use Rattle.stream.specs.Output.{Ready};
+ghost use Rattle.stream.specs.Parts.{FirstPassed};
 
 // From a place of a buffer on, the rows that are events on one series, up to the first other row. The book stays where it is: each
 // row changes one series of it, and the blotter.
 pub fn series_rows(input: &[u8], start: usize, out: &mut [u8], replay: Replay) -> Passed
-    requires { ⌜ (Good (replay .book)) × (replay .at ≤ 28608) × (65536 ≤ length (now out)) × (start ≤ length (now input)) ⌝ }
-    ensures { λ r. ⌜ (Good (r .replay .book)) × (r .replay .at ≤ 28608) × (start ≤ r .from) × (r .from ≤ length (now (input .entry))) × AnsweredUpTo replay (now (out .entry)) (cut (drop start (now (input .entry)))) (r .replay) (now (out .exit)) (cut (drop (r .from) (now (input .entry)))) ⌝ }
+    requires { ⌜ (Ready replay (now out)) × (start ≤ length (now input)) ⌝ }
+    ensures { λ r. ⌜ FirstPassed (now (input .entry)) start replay (now (out .entry)) r (now (out .exit)) ⌝ }
 {
     let mut book = replay.book;
     let mut row = replay.row;

@@ -25,6 +25,7 @@ use Rattle.stream.specs.Rows.{seriesRow, seriesRowAt}
 use Rattle.stream.specs.declared.types.SeriesRow.{SeriesRow}
 use Rattle.stream.specs.declared.types.SeriesRow.the-variants.{OnSeries, Other}
 
+-- ---- steps of the search
 -- a row by what the reader made of it
 module _ (r row : Row) (y : SeriesRow) (next : ℕ) (p : r ≡ row) where
   pub row-none : (why : Refusal) → r ≡ Refused why → y ≡ Other → y ≡ seriesRow row next
@@ -40,7 +41,8 @@ module _ (r row : Row) (y : SeriesRow) (next : ℕ) (p : r ≡ row) where
     unfolding seriesRow
     row-on-series k f = rw (← p, q) (past _ (lt-leb seriesRoom (seriesOf e) (rw (← h) k)) (f ∙ ap (λ (n : ℕ). OnSeries n e next) h))
 
--- what is found: a row that ends in the buffer and says an event on this series, and where the row after it starts
+-- ---- what is found
+-- a row that ends in the buffer and says an event on this series, and where the row after it starts
 pub record Found (s : List ℕ) (from i : ℕ) (e : Event) (next : ℕ) : Type 0 where
   pub row : List ℕ
   pub says : rowOf row ≡ Accepted e

@@ -1,8 +1,7 @@
 use book::state::Book;
 use book::state::Event;
-ghost use Rattle.rows.specs.Cut.{kept};
 
-// The book, the rows answered so far, the bytes of output that wait to be written, and whether all before them were.
+// The book, the rows answered so far, the bytes of output that wait to be written, and whether no write before them failed.
 pub struct Replay {
     pub book: Book,
     pub row: u64,
@@ -10,7 +9,7 @@ pub struct Replay {
     pub intact: bool,
 }
 
-// What waits of the output, and whether the output before it is whole.
+// What waits of the output, and whether no write before it failed.
 pub struct Waiting {
     pub at: usize,
     pub intact: bool,

@@ -3,6 +3,7 @@ use mathlib.Core.Path.{refl, sym, ap, _∙_}
 use native.Mathlib.Omega.{arith}
 use lib.Seq.{length-take-le}
 use Rattle.rows.specs.Cut.{kept}
+use Rattle.stream.specs.Input.{rowsBy, keptBy, goesOn}
 use borrow.Author.Needs.{needs}
 use Rattle.buffer_rows.proofs.pass.Statement.{statement}
 use Rattle.buffer_rows.proofs.pass.Tie as tie
@@ -11,7 +12,7 @@ slice-reshare-prefix-whole-rows : tie.Need-slice-reshare-prefix-whole-rows
 slice-reshare-prefix-whole-rows c = search needs
 
 slice-aggregate-whole-rows : tie.Need-slice-aggregate-whole-rows
-slice-aggregate-whole-rows c = sym (length-take-le _ _ (c .before .before .before .pre .3))
+slice-aggregate-whole-rows c = sym (length-take-le _ _ (c .before .before .before .pre .1))
 
 whole-rows-requires : tie.Need-whole-rows-requires
 whole-rows-requires c κs = search needs
@@ -26,10 +27,18 @@ same-length-2 : tie.Need-same-length-2
 same-length-2 c = search needs
 
 returns : tie.Need-returns
+unfolding rowsBy keptBy goesOn
 returns c =
-    let w = c .before .before .before .before .before .before .before .whole-rows in
+    let w = c .before .before .before .before .before .before .before .whole-rows .ensures in
     let k = c .before .before .before .keep in
-    (w .ensures .0, w .ensures .1, omega (arith, k .ensures .0), omega (arith, k .ensures .1), w .ensures .5, k .ensures .2 ∙ ap kept (w .ensures .4), refl)
+    record {
+      answered = w .answered;
+      keeps = k .ensures .2 ∙ ap kept (w .unfinished);
+      few = omega (arith, k .ensures .1);
+      within = omega (arith, k .ensures .0, k .kept .0);
+      going = refl;
+      ready = w .ready;
+    }
 
 pub pass-spec : {M : Type 1} → statement M
 pass-spec =

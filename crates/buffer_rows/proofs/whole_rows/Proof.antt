@@ -5,23 +5,22 @@ use mathlib.Core.Path.{_≡_, refl, sym, ap, _∙_}
 use native.Mathlib.Omega.{arith}
 use mathlib.Core.List.{List}
 use lib.ListN.{length, drop, length-drop}
-use Rattle.book.specs.Good.{Good}
-use Rattle.rows.specs.Cut.{Cut, cut}
+use Rattle.rows.specs.Cut.{Cut}
 use Rattle.rows.proofs.Ends.{end-fits, no-row}
-use Rattle.stream.specs.Output.{AnsweredUpTo}
+use Rattle.stream.specs.Parts.{FirstPassed}
 use Rattle.stream.proofs.Lines.{up-to-none, up-to-more, row-answered, next-answered, all-answered}
 use Rattle.buffer_rows.proofs.whole_rows.Statement.{statement}
 use Rattle.buffer_rows.proofs.whole_rows.Tie as tie
 
+-- ---- what the loop keeps: the rows up to a place are answered
 abbrev Inv-loop : tie.InvT-loop
 Inv-loop input out₀ now₀ from₀ out now from =
-    (Good (now .book)) × (now .at ≤ 28608) × (from ≤ length input) × (length out ≡ length out₀)
-    × AnsweredUpTo now₀ out₀ (cut input) now out (cut (drop from input))
+    (length out ≡ length out₀) × FirstPassed input 0 now₀ out₀ (record { replay = now; from = from }) out
 
 abbrev μ-loop : tie.MeasureT-loop
 μ-loop input out₀ now₀ from₀ out now from = length input - from
 
--- where a row that was found ends, past the rows on one series
+-- ---- a row that was found, past the rows on one series
 module _ (c : tie.After-known-told Inv-loop μ-loop) where
   abbrev some : tie.After-series-rows Inv-loop μ-loop
   some = c .before .before .before .before .before .before
@@ -32,29 +31,27 @@ module _ (c : tie.After-known-told Inv-loop μ-loop) where
   abbrev input : List ℕ
   input = top .before .before .before .args .input .now
 
+  -- where it ends
   ends : (some .series-rows .result .from ≤ c .before .end .given .0 .0) × (c .before .end .given .0 .0 + 2 ≤ length input)
   ends =
       let r = some .series-rows in
       let f = end-fits (drop (r .result .from) input) (r .result .from) (c .before .end .given .0 .0) (sym (c .before .before .before .row-end .ensures) ∙ c .before .end .given .1) in
-      (f .0, omega (arith, simp length-drop at (f .1), r .ensures .3))
-
-  -- the room for the lines of one more row
-  room : 65536 ≤ length (top .loop .out)
-  room = omega (arith, top .loop .inv .3, top .before .before .before .pre .2)
+      (f .0, omega (arith, simp length-drop at (f .1), r .ensures .within))
 
 -- the row, from the end of a turn
 abbrev row-of : tie.After-slice-known4 Inv-loop μ-loop → tie.After-known-told Inv-loop μ-loop
 row-of c = c .before .before .before .before .before .before .before .before .before .before
 
+-- ---- the loop begins, and ends where no more row does
 loop-holds : tie.Need-loop-holds Inv-loop μ-loop
 loop-holds c =
     let s = c .before .before in
-    (s .pre .0, s .pre .1, omega arith, refl, up-to-none (s .args .replay) (s .args .out .now) _)
+    (refl, record { answered = up-to-none (s .args .replay) (s .args .out .now) _; later = omega arith; within = omega arith; ready = s .pre })
 
 series-rows-requires : tie.Need-series-rows-requires Inv-loop μ-loop
 series-rows-requires c κs =
-    let l = c .before in
-    (l .loop .inv .0, l .loop .inv .1, omega (arith, l .loop .inv .3, l .before .before .before .pre .2), l .loop .inv .2)
+    let p = c .before .loop .inv .1 in
+    (p .ready, p .within)
 
 row-end-requires : tie.Need-row-end-requires Inv-loop μ-loop
 row-end-requires c κs = search needs
@@ -68,7 +65,7 @@ enum-told c = search needs
 same-length : tie.Need-same-length Inv-loop μ-loop
 same-length c =
     let s = c .before .before .before .before .before in
-    omega (arith, s .series-rows .kept .1, s .before .before .loop .inv .3)
+    omega (arith, s .series-rows .kept .1, s .before .before .loop .inv .0)
 
 returns : tie.Need-returns Inv-loop μ-loop
 returns c =
@@ -77,15 +74,17 @@ returns c =
     let r = s .series-rows in
     let e = c .before .before .row-end .ensures in
     let q = c .enum-told .given .1 in
-    let buffer = l .before .before .before .args .input .now in (
-      r .ensures .0,
-      r .ensures .1,
-      r .ensures .3,
-      ap (λ (k : Cut). k .rows) (no-row buffer (r .result .from) _ e q),
-      all-answered buffer (r .result .from) e (up-to-more (l .loop .inv .4) (r .ensures .4)) q .0,
-      all-answered buffer (r .result .from) e (up-to-more (l .loop .inv .4) (r .ensures .4)) q .1,
-    )
+    let buffer = l .before .before .before .args .input .now in
+    let all = all-answered buffer (r .result .from) e (up-to-more (l .loop .inv .1 .answered) (r .ensures .answered)) q in
+    record {
+      answered = all .1;
+      none = ap (λ (k : Cut). k .rows) (no-row buffer (r .result .from) _ e q);
+      unfinished = all .0;
+      within = r .ensures .within;
+      ready = r .ensures .ready;
+    }
 
+-- ---- the other row, and the next turn
 sub-answer-row : tie.Need-sub-answer-row Inv-loop μ-loop
 sub-answer-row c = ends (c .before) .0
 
@@ -97,16 +96,14 @@ part-answer-row-end c = omega (arith, ends (c .before) .1)
 
 answer-row-requires : tie.Need-answer-row-requires Inv-loop μ-loop
 answer-row-requires c κs =
-    let k = c .before .before .before in
-    let r = some k .series-rows in
-    (r .ensures .0, omega (arith, r .ensures .1, r .kept .1, room k))
+    let r = some (c .before .before .before) .series-rows .ensures .ready in
+    (r .good, omega (arith, r .waiting, r .room))
 
 flushed-requires : tie.Need-flushed-requires Inv-loop μ-loop
 flushed-requires c κs =
-    let k = c .before .before .before .before .before .before .before in
-    let r = some k .series-rows in
+    let r = some (c .before .before .before .before .before .before .before) .series-rows .ensures .ready in
     let a = c .before .before .before .answer-row in
-    omega (arith, a .ensures .1, a .kept .1, r .ensures .1, r .kept .1, room k)
+    omega (arith, a .ensures .room, a .kept .1, r .waiting, r .room)
 
 add-from : tie.Need-add-from Inv-loop μ-loop
 add-from c =
@@ -116,23 +113,25 @@ add-from c =
 loop-less : tie.Need-loop-less Inv-loop μ-loop
 loop-less c =
     let k = row-of c in
-    omega (arith, ends k .0, ends k .1, some k .series-rows .ensures .2)
+    omega (arith, ends k .0, ends k .1, some k .series-rows .ensures .later)
 
 loop-again : tie.Need-loop-again Inv-loop μ-loop
 loop-again c =
     let k = row-of c in
     let a = c .before .before .before .before .before .before .answer-row in
     let f = c .before .before .flushed in
-    let r = some k .series-rows in
-    let end = k .before .end .given .0 .0 in (
-      a .ensures .0,
-      f .ensures .0,
-      ends k .1,
-      omega (arith, a .kept .1, f .kept .0, r .kept .1, top k .loop .inv .3),
-      next-answered (input k) (r .result .from) (k .before .before .before .row-end .ensures) (up-to-more (top k .loop .inv .4) (r .ensures .4)) end (k .before .end .given .1)
-          (row-answered {next = a .result .at} (a .ensures .3) (a .ensures .2) (a .ensures .4) (omega (arith, a .ensures .1, r .ensures .1, r .kept .1, room k)) (f .ensures .1) (λ h. f .ensures .2 (a .ensures .5 ∙ h))),
+    let r = some k .series-rows in (
+      omega (arith, a .kept .1, f .kept .0, r .kept .1, top k .loop .inv .0),
+      record {
+        answered = next-answered (input k) (r .result .from) (k .before .before .before .row-end .ensures) (up-to-more (top k .loop .inv .1 .answered) (r .ensures .answered))
+            (k .before .end .given .0 .0) (k .before .end .given .1) (row-answered (r .ensures .ready) (a .ensures) (f .ensures));
+        later = omega arith;
+        within = ends k .1;
+        ready = record { good = a .ensures .good; waiting = f .ensures .room; room = omega (arith, a .kept .1, f .kept .0, r .ensures .ready .room) };
+      },
     )
 
+-- ---- all of it
 pub whole-rows-spec : {M : Type 1} → statement M
 whole-rows-spec =
     tie.close

@@ -1,5 +1,5 @@
 -- `buffers::fill` meets its contract.
-use Rattle.stream.specs.Input.{Within}
+use Rattle.stream.specs.Input.{InRoom}
 use borrow.Author.Needs.{needs}
 use borrow.Rule.Slice.PartMut.{take-put}
 use Prim.Native.Nat.{_-_}
@@ -24,7 +24,7 @@ same-length : tie.Need-same-length
 same-length c = search needs
 
 returns : tie.Need-returns
-unfolding Within
+unfolding InRoom
 returns c =
     let s = c .before .before .before .before .before .before in
     (omega (arith, s .pre), take-put (s .args .have) (length (s .args .buf .now) - s .args .have) (s .args .buf .now) (c .before .before .before .read .last .1 .0) (omega (arith, s .pre)))
@@ -45,7 +45,7 @@ same-length-2 : tie.Need-same-length-2
 same-length-2 c = search needs
 
 returns-2 : tie.Need-returns-2
-unfolding Within
+unfolding InRoom
 returns-2 c =
     let s = c .before .before .before .before .before .before .before .before .before .before in
     (omega (arith, s .pre), take-put (s .args .have) (length (s .args .buf .now) - s .args .have) (s .args .buf .now) (c .before .before .before .before .before .before .before .read .last .1 .0) (omega (arith, s .pre)))
@@ -57,7 +57,7 @@ same-length-3 : tie.Need-same-length-3
 same-length-3 c = search needs
 
 returns-3 : tie.Need-returns-3
-unfolding Within
+unfolding InRoom
 returns-3 c =
     let s = c .before .before .before .before .before .before .before .before .before .before in
     ((omega arith, search needs), take-put (s .args .have) (length (s .args .buf .now) - s .args .have) (s .args .buf .now) (c .before .before .before .before .before .before .before .read .last .1 .0) (omega (arith, s .pre)))

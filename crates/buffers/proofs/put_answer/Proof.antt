@@ -1,9 +1,8 @@
--- `buffers::put_answer` meets its contract: the line stands behind what waited, and then waits on or is written.
+-- `buffers::put_answer` meets its contract: the line stands behind what waited, and then waits on or is let go.
 use borrow.Author.Needs.{needs}
-use mathlib.Core.Path.{ap, _∙_}
+use mathlib.Core.Path.{refl}
 use native.Mathlib.Omega.{arith}
-use Rattle.stream.specs.Output.{waitsOn}
-use Rattle.stream.proofs.Lines.{put-behind}
+use Rattle.stream.proofs.Lines.{put-behind, text-flushed}
 use Rattle.buffers.proofs.put_answer.Statement.{statement}
 use Rattle.buffers.proofs.put_answer.Tie as tie
 
@@ -18,10 +17,9 @@ same-length c = search needs
 
 returns : tie.Need-returns
 returns c =
-    let w = c .before .before .flushed .ensures in
     let p = c .before .before .before .before .before .before .answered .ensures in
     let s = c .before .before .before .before .before .before .before .before .before .pre in
-    (w .0, w .1 ∙ ap waitsOn (put-behind (p .0) (omega (arith, p .1, s .0, s .1))), w .2)
+    text-flushed (put-behind (p .0) (omega (arith, p .1, s .0, s .1))) refl (c .before .before .flushed .ensures)
 
 pub put-answer-spec : {M : Type 1} → statement M
 put-answer-spec = tie.close (tie.spec answered-requires flushed-requires same-length returns)

@@ -2,32 +2,34 @@
 use mathlib.Core.Path.{_≡_}
 use Prim.Native.Nat.{ℕ, _≤_, _<_}
 use native.Mathlib.Omega.{arith}
-use Rattle.stream.specs.Input.{Within}
+use Rattle.stream.specs.Input.{InRoom, ending, failure}
 use Rattle.stream.specs.declared.types.Input.{Input}
 use Rattle.stream.specs.declared.types.Input.the-variants.{UpTo}
-use Rattle.stream.proofs.Turns.{behind, turned-piece, turned-end, turned-failure}
+use Rattle.stream.proofs.Turns.{behind, turned-piece, turned-failure}
 use borrow.Author.Needs.{needs}
 use Rattle.replay.proofs.turn.Statement.{statement}
 use Rattle.replay.proofs.turn.Tie as tie
 
+-- ---- what is read
 -- input that goes up to a place of the buffer
-reached : (have n end : ℕ) (r : Input) → Within have n r → r ≡ UpTo end → (have < end) × (end ≤ n)
-unfolding Within
+reached : (have n end : ℕ) (r : Input) → InRoom have n r → r ≡ UpTo end → (have < end) × (end ≤ n)
+unfolding InRoom
 reached have n end r w e = rw e at w
 
 fill-requires : tie.Need-fill-requires
 fill-requires c κs =
     let s = c .before .before .before .before in
-    omega (arith, s .pre .3, s .pre .4)
+    omega (arith, s .pre .1, s .pre .2)
 
 enum-known-end : tie.Need-enum-known-end
 enum-known-end c = search needs
 
+-- ---- how it is gone through
 pass-requires : tie.Need-pass-requires
 pass-requires c κs =
     let s = c .before .before .before .before .before .before .before .before .before .before .before .before in
     let f = c .before .before .before .before .before .before .before .fill in
-    (s .pre .0, s .pre .1, s .pre .2, omega (arith, reached _ _ _ _ (f .ensures .0) (c .before .before .before .end .given .1) .1, f .kept .0))
+    (s .pre .0, omega (arith, reached _ _ _ _ (f .ensures .0) (c .before .before .before .end .given .1) .1, f .kept .0))
 
 enum-told : tie.Need-enum-told
 enum-told c = search needs
@@ -35,11 +37,12 @@ enum-told c = search needs
 last-row-requires : tie.Need-last-row-requires
 last-row-requires c κs =
     let s = c .before .before .before .before .before .before .before .before .before .before .before in
-    (s .pre .0, s .pre .1, s .pre .2, omega (arith, s .pre .3, s .pre .4, c .before .before .before .before .before .before .fill .kept .0))
+    (s .pre .0, omega (arith, s .pre .1, s .pre .2, c .before .before .before .before .before .before .fill .kept .0))
 
 enum-told-2 : tie.Need-enum-told-2
 enum-told-2 c = search needs
 
+-- ---- what a piece, the end and a failure give
 same-length : tie.Need-same-length
 same-length c = search needs
 
@@ -50,7 +53,8 @@ returns : tie.Need-returns
 returns c =
     let r = c .before .before .before .before .pass in
     let f = c .before .before .before .before .before .before .before .before .before .before .before .before .fill in
-    (r .ensures .0, r .ensures .1, r .ensures .3, turned-piece _ (behind _ _ _ _ (reached _ _ _ _ (f .ensures .0) (c .before .before .before .before .before .before .before .before .end .given .1) .0) (f .ensures .1)) (r .ensures .4) (r .ensures .5) (r .ensures .6))
+    let end = c .before .before .before .before .before .before .before .before .end .given .1 in
+    record { got = _; turned = turned-piece (behind _ _ _ _ (reached _ _ _ _ (f .ensures .0) end .0) (f .ensures .1)) (r .ensures) }
 
 same-length-3 : tie.Need-same-length-3
 same-length-3 c = search needs
@@ -62,7 +66,7 @@ returns-2 : tie.Need-returns-2
 returns-2 c =
     let r = c .before .before .last-row in
     let f = c .before .before .before .before .before .before .before .before .before .fill in
-    (r .ensures .0, r .ensures .1, omega (arith, r .ensures .2), turned-end (f .ensures .1) (r .ensures .3) (r .ensures .2) (r .ensures .4))
+    record { got = ending; turned = rw (f .ensures .1) at (r .ensures) }
 
 same-length-5 : tie.Need-same-length-5
 same-length-5 c = search needs
@@ -70,8 +74,9 @@ same-length-5 c = search needs
 returns-3 : tie.Need-returns-3
 returns-3 c =
     let s = c .before .before .before .before .before .before .before .before .before in
-    (s .pre .0, s .pre .1, omega arith, turned-failure (s .args .run) (s .args .buf .now) (s .args .out .now) _)
+    record { got = failure; turned = turned-failure _ _ (s .pre .0) }
 
+-- ---- all of it
 pub turn-spec : {M : Type 1} → statement M
 turn-spec =
     tie.close

@@ -5,7 +5,8 @@ use native.Mathlib.Omega.{arith}
 use lib.ListN.{length}
 use borrow.Author.Needs.{needs}
 use Rattle.decimal.specs.Put.{Put}
-use Rattle.report.specs.Report.{futuresIn, seriesLines}
+use Rattle.terms.specs.Bounds.{seriesRoom}
+use Rattle.report.specs.Report.{futuresIn, seriesLines, accountsRoom}
 use Rattle.report.specs.Lines.{joined}
 use Rattle.report.proofs.Joined.{joined-put, joined-next}
 use Rattle.row_lines.proofs.futures.Statement.{statement}
@@ -13,10 +14,10 @@ use Rattle.row_lines.proofs.futures.Tie as tie
 
 abbrev Inv-loop : tie.InvT-loop
 Inv-loop out₀ place row before after next₀ i₀ out next i =
-    (i ≤ 8) × (length out ≡ length out₀) × (next ≤ place + i * 4096) × Put out₀ place (joined i (λ i. seriesLines row i (futuresIn before i) (futuresIn after i))) out next
+    (i ≤ seriesRoom) × (length out ≡ length out₀) × (next ≤ place + i * accountsRoom) × Put out₀ place (joined i (λ i. seriesLines row i (futuresIn before i) (futuresIn after i))) out next
 
 abbrev μ-loop : tie.MeasureT-loop
-μ-loop out₀ place row before after next₀ i₀ out next i = 8 - i
+μ-loop out₀ place row before after next₀ i₀ out next i = seriesRoom - i
 
 loop-holds : tie.Need-loop-holds Inv-loop μ-loop
 loop-holds c = (omega arith, refl, omega arith, joined-put _ _ _)
@@ -57,7 +58,7 @@ same-length c = c .before .loop .inv .1
 returns : tie.Need-returns Inv-loop μ-loop
 returns c =
     let loop = c .before .loop in
-    let all : loop .i ≡ 8 = omega arith in
+    let all : loop .i ≡ seriesRoom = omega arith in
     (rw all at (loop .inv .3), omega arith)
 
 pub futures-spec : {M : Type 1} → statement M

@@ -10,8 +10,9 @@ use mir.Syntax.{w64}
 use borrow.Author.Needs.{needs}
 use Rattle.decimal.specs.Put.{Put}
 use Rattle.integer.specs.Table.{at}
+use Rattle.terms.specs.Bounds.{accounts}
 use Rattle.report.specs.Report.{moneyLine}
-use Rattle.report.specs.Lines.{joined}
+use Rattle.report.specs.Lines.{lineRoom, joined}
 use Rattle.report.proofs.Fields.{text-of}
 use Rattle.report.proofs.Joined.{joined-put, joined-next, element-fits}
 use Rattle.row_lines.proofs.money.Statement.{statement}
@@ -19,14 +20,14 @@ use Rattle.row_lines.proofs.money.Tie as tie
 
 abbrev Inv-loop : tie.InvT-loop
 Inv-loop out₀ place row money next₀ a₀ out next a =
-    (a ≤ 64) × (length out ≡ length out₀) × (next ≤ place + a * 64) × Put out₀ place (joined a (λ a. moneyLine row a (at money a))) out next
+    (a ≤ accounts) × (length out ≡ length out₀) × (next ≤ place + a * lineRoom) × Put out₀ place (joined a (λ a. moneyLine row a (at money a))) out next
 
 abbrev μ-loop : tie.MeasureT-loop
-μ-loop out₀ place row money next₀ a₀ out next a = 64 - a
+μ-loop out₀ place row money next₀ a₀ out next a = accounts - a
 
 -- each account's money is a number of 64 bits
 amount-fits : (c : tie.Start Inv-loop μ-loop) (a : ℕ) → SFits w64 (at (c .args .t4) a)
-amount-fits c a = element-fits w64 (lit< tt) 64 (c .args .t4) _ (c .good .1 .1 .1 .0) a
+amount-fits c a = element-fits w64 (lit< tt) accounts (c .args .t4) _ (c .good .1 .1 .1 .0) a
 
 loop-holds : tie.Need-loop-holds Inv-loop μ-loop
 loop-holds c = (omega arith, refl, omega arith, joined-put _ _ _)
@@ -63,7 +64,7 @@ same-length c = c .before .loop .inv .1
 returns : tie.Need-returns Inv-loop μ-loop
 returns c =
     let loop = c .before .loop in
-    let all : loop .a ≡ 64 = omega arith in
+    let all : loop .a ≡ accounts = omega arith in
     (rw all at (loop .inv .3), omega arith)
 
 pub money-spec : {M : Type 1} → statement M

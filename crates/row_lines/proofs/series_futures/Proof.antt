@@ -9,8 +9,10 @@ use borrow.Author.Needs.{needs}
 use Rattle.decimal.specs.Put.{Put}
 use Rattle.integer.specs.Table.{at}
 use Rattle.integer.proofs.Machine.{Reads, any, minus, local, fits}
+use Rattle.terms.specs.Bounds.{accounts}
+use Rattle.exercise.specs.Places.{places}
 use Rattle.report.specs.Report.{arisen, futuresLine, seriesLines}
-use Rattle.report.specs.Lines.{joined}
+use Rattle.report.specs.Lines.{lineRoom, joined}
 use Rattle.report.proofs.Fields.{text-of}
 use Rattle.report.proofs.Joined.{joined-put, joined-next, element-fits}
 use Rattle.row_lines.proofs.series_futures.Statement.{statement}
@@ -18,18 +20,18 @@ use Rattle.row_lines.proofs.series_futures.Tie as tie
 
 abbrev Inv-loop : tie.InvT-loop
 Inv-loop out₀ place row i before after next₀ a₀ out next a =
-    (a ≤ 64) × (length out ≡ length out₀) × (next ≤ place + a * 64) × Put out₀ place (joined a (λ a. futuresLine row i a (arisen before after a))) out next
+    (a ≤ accounts) × (length out ≡ length out₀) × (next ≤ place + a * lineRoom) × Put out₀ place (joined a (λ a. futuresLine row i a (arisen before after a))) out next
 
 abbrev μ-loop : tie.MeasureT-loop
-μ-loop out₀ place row i before after next₀ a₀ out next a = 64 - a
+μ-loop out₀ place row i before after next₀ a₀ out next a = accounts - a
 
 -- each account's futures are numbers of 32 bits, and their difference is one of 64
 module _ (c : tie.Start Inv-loop μ-loop) (a : ℕ) where
   abbrev earlier : Reads 2147483648 (at (c .args .t5) a)
-  earlier = any w32 (element-fits w32 (lit< tt) 64 (c .args .t5) _ (c .good .1 .1 .1 .1 .0) a)
+  earlier = any w32 (element-fits w32 (lit< tt) places (c .args .t5) _ (c .good .1 .1 .1 .1 .0) a)
 
   abbrev later : Reads 2147483648 (at (c .args .t6) a)
-  later = any w32 (element-fits w32 (lit< tt) 64 (c .args .t6) _ (c .good .1 .1 .1 .1 .1 .0) a)
+  later = any w32 (element-fits w32 (lit< tt) places (c .args .t6) _ (c .good .1 .1 .1 .1 .1 .0) a)
 
   abbrev difference : Reads 4294967296 (arisen (c .args .t5) (c .args .t6) a)
   difference = minus (local w64 later tt) (local w64 earlier tt)
@@ -85,7 +87,7 @@ returns : tie.Need-returns Inv-loop μ-loop
 unfolding seriesLines
 returns c =
     let loop = c .before .loop in
-    let all : loop .a ≡ 64 = omega arith in
+    let all : loop .a ≡ accounts = omega arith in
     (rw all at (loop .inv .3), omega arith)
 
 pub series-futures-spec : {M : Type 1} → statement M

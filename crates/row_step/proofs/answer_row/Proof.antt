@@ -1,11 +1,12 @@
 -- `row_step::answer_row` meets its contract: a row is its event, or is refused.
 use mathlib.Core.Path.{refl, sym, _∙_}
 use native.Mathlib.Omega.{arith}
-use Rattle.stream.proofs.Books.{book-refused, book-accepted, lines-refused, lines-accepted}
+use Rattle.stream.proofs.Books.{book-refused, lines-refused, row-put}
 use borrow.Author.Needs.{needs}
 use Rattle.row_step.proofs.answer_row.Statement.{statement}
 use Rattle.row_step.proofs.answer_row.Tie as tie
 
+-- ---- the number of the row, and what the reader makes of it
 wrapping-add-u64-requires : tie.Need-wrapping-add-u64-requires
 wrapping-add-u64-requires c κs = search needs
 
@@ -24,6 +25,7 @@ answer-requires c κs = search needs
 enum-known-event : tie.Need-enum-known-event
 enum-known-event c = search needs
 
+-- ---- an event: a session, or another
 is-session-requires : tie.Need-is-session-requires
 is-session-requires c κs = search needs
 
@@ -35,11 +37,9 @@ same-length c = search needs
 
 returns : tie.Need-returns
 returns c =
-    let b = c .before .before .before .before .before .before .before .before .before .before .before .before .before .before .args .replay .book in
     let w = c .before .before .before .before .before .before .before .before .before .before .before .wrapping-add-u64 in
     let q = sym (c .before .before .before .before .before .before .before .before .before .read-row .ensures) ∙ c .before .before .before .before .before .before .before .event .given .1 in
-    let e = c .before .before .session-row .ensures in
-    (e .0, e .1, e .2 ∙ w .ensures, e .3 ∙ book-accepted b q, rw (e .2, ← lines-accepted b (w .result) q) (e .4), e .5)
+    row-put (w .ensures) q (c .before .before .session-row .ensures)
 
 event-row-requires : tie.Need-event-row-requires
 event-row-requires c κs = let s = c .before .before .before .before .before .before .before .before .before .before .before in (s .pre .0, s .pre .1, sym (c .before .before .is-session .ensures) ∙ c .before .if1 .left)
@@ -47,6 +47,7 @@ event-row-requires c κs = let s = c .before .before .before .before .before .be
 same-length-2 : tie.Need-same-length-2
 same-length-2 c = search needs
 
+-- ---- a row that is refused
 returns-2 : tie.Need-returns-2
 returns-2 c =
     let s = c .before .before .before .before .before .before .before .before .before .before .before .before .before in
@@ -54,18 +55,24 @@ returns-2 c =
     let w = c .before .before .before .before .before .before .before .before .before .before .wrapping-add-u64 in
     let q = sym (c .before .before .before .before .before .before .before .before .read-row .ensures) ∙ c .before .before .before .before .before .before .why .given .1 in
     let p = c .before .before .answer .ensures in
-    (s .pre .0, omega (arith, p .1), w .ensures, book-refused b q, rw (← lines-refused b (w .result) q, ← c .before .before .before .of-row .ensures) (p .0), refl)
+    record {
+      good = s .pre .0;
+      book = book-refused b q;
+      number = w .ensures;
+      lines = rw (← lines-refused b (w .result) q, ← c .before .before .before .of-row .ensures) (p .0);
+      room = omega (arith, p .1);
+      intact = refl;
+    }
 
 same-length-3 : tie.Need-same-length-3
 same-length-3 c = search needs
 
+-- ---- an event that is no session
 returns-3 : tie.Need-returns-3
 returns-3 c =
-    let b = c .before .before .before .before .before .before .before .before .before .before .before .before .before .before .args .replay .book in
     let w = c .before .before .before .before .before .before .before .before .before .before .before .wrapping-add-u64 in
     let q = sym (c .before .before .before .before .before .before .before .before .before .read-row .ensures) ∙ c .before .before .before .before .before .before .before .event .given .1 in
-    let e = c .before .before .event-row .ensures in
-    (e .0, e .1, e .2 ∙ w .ensures, e .3 ∙ book-accepted b q, rw (e .2, ← lines-accepted b (w .result) q) (e .4), e .5)
+    row-put (w .ensures) q (c .before .before .event-row .ensures)
 
 pub answer-row-spec : {M : Type 1} → statement M
 answer-row-spec =

@@ -21,7 +21,14 @@ returns c =
     let b = c .before .before .before .before .before .before .before in
     let s = c .before .before .before .before .before .step .ensures in
     let p = c .before .before .before .answered .ensures in
-    (s .1, omega (arith, p .1), refl, ap (λ (x : Step). x .book) (s .0), rw (quiet-report (b .args .row) (b .args .book) (b .pre .0) (b .args .event) (b .pre .2), ← s .0) (p .0), refl)
+    record {
+      good = s .1;
+      book = ap (λ (x : Step). x .book) (s .0);
+      number = refl;
+      lines = rw (quiet-report (b .args .row) (b .args .book) (b .pre .0) (b .args .event) (b .pre .2), ← s .0) (p .0);
+      room = omega (arith, p .1);
+      intact = refl;
+    }
 
 pub event-row-spec : {M : Type 1} → statement M
 event-row-spec = tie.close (tie.spec step-requires answered-requires same-length returns)

@@ -18,7 +18,14 @@ returns : tie.Need-returns
 returns c =
     let s = c .before .before .before .before .before .step .ensures in
     let p = c .before .before .before .report .ensures in
-    (s .1, p .1, refl, ap (λ (x : Step). x .book) (s .0), rw (← s .0) (p .0), refl)
+    record {
+      good = s .1;
+      book = ap (λ (x : Step). x .book) (s .0);
+      number = refl;
+      lines = rw (← s .0) (p .0);
+      room = p .1;
+      intact = refl;
+    }
 
 pub session-row-spec : {M : Type 1} → statement M
 session-row-spec = tie.close (tie.spec step-requires report-requires same-length returns)

@@ -1,12 +1,12 @@
 -- `rows_in_place::series_rows` meets its contract: each row is its event's step, which keeps the book good, and has its
 -- answer's line alone.
 use borrow.Author.Needs.{needs}
-use Prim.Native.Nat.{ℕ, _+_, _-_, _≤_, _<_}
-use mathlib.Core.Path.{_≡_, refl, sym, ap, _∙_}
+use Prim.Native.Nat.{ℕ, _-_, _<_}
+use mathlib.Core.Path.{_≡_, refl, ap, _∙_}
 use native.Mathlib.Omega.{arith}
 use mathlib.Core.Bool.{Bool}
 use mathlib.Core.List.{List}
-use lib.ListN.{length, drop}
+use lib.ListN.{length}
 use Rattle.terms.specs.Bounds.{blotterRoom}
 use Rattle.book.specs.Effects.{Fits}
 use Rattle.book.specs.Good.{Good}
@@ -15,9 +15,7 @@ use Rattle.book.specs.declared.state.Event.{Event}
 use Rattle.book.specs.declared.state.Step.{Step}
 use Rattle.book.proofs.Keeps.{stays-good}
 use Rattle.book.proofs.Effects.{next-record-within, effect-fits, step-stored}
-use Rattle.rows.specs.Cut.{cut}
-use Rattle.stream.specs.Output.{AnsweredUpTo}
-use Rattle.stream.specs.declared.types.Passed.{Passed}
+use Rattle.stream.specs.Parts.{FirstPassed}
 use Rattle.stream.specs.declared.types.Replay.{Replay}
 use Rattle.stream.proofs.Books.{book-accepted, series-line}
 use Rattle.stream.proofs.Lines.{up-to-none, lines-answered, up-to-next}
@@ -25,22 +23,26 @@ use Rattle.stream.proofs.NextRow.{Found, found}
 use Rattle.rows_in_place.proofs.series_rows.Statement.{statement}
 use Rattle.rows_in_place.proofs.series_rows.Tie as tie
 
+-- ---- what the loop keeps
 -- the replay that the loop holds
 abbrev state : Book → ℕ → ℕ → Bool → Replay
 state book row at intact = record { book = book; row = row; at = at; intact = intact }
 
 abbrev Inv-loop : tie.InvT-loop
 Inv-loop input start out₀ book₀ row₀ at₀ intact₀ from₀ out book row at intact from =
-    (Good book) × (at ≤ 28608) × (start ≤ from) × (from ≤ length input) × (length out ≡ length out₀)
-    × AnsweredUpTo (state book₀ row₀ at₀ intact₀) out₀ (cut (drop start input)) (state book row at intact) out (cut (drop from input))
+    (length out ≡ length out₀)
+    × FirstPassed input start (state book₀ row₀ at₀ intact₀) out₀ (record { replay = state book row at intact; from = from }) out
 
 abbrev μ-loop : tie.MeasureT-loop
 μ-loop input start out₀ book₀ row₀ at₀ intact₀ from₀ out book row at intact from = length input - from
 
--- a row that was found, and the turn of the loop
+-- ---- a row that was found, and the turn of the loop
 module _ (c : tie.After-known-told Inv-loop μ-loop) where
   abbrev top : tie.At-loop Inv-loop μ-loop
   top = c .before .before .before .before
+
+  abbrev good : Good (top .loop .book)
+  good = top .loop .inv .1 .ready .good
 
   abbrev input : List ℕ
   input = top .before .before .before .before .args .input .now
@@ -53,16 +55,6 @@ module _ (c : tie.After-known-told Inv-loop μ-loop) where
 
   row : Found input (top .loop .from) series-at event (c .before .series .given .0 .1 .1 .0)
   row = found _ _ (c .before .before .before .series-row .ensures) _ _ _ (c .before .series .given .1)
-
--- what is returned from a turn of the loop
-passed : (l : tie.At-loop Inv-loop μ-loop) (r : Passed) → (r .replay .book ≡ l .loop .book) × (r .replay .at ≡ l .loop .at) × (r .from ≡ l .loop .from) × (r .replay .row ≡ l .loop .row) × (r .replay .intact ≡ l .loop .intact)
-    → (Good (r .replay .book)) × (r .replay .at ≤ 28608) × (l .before .before .before .before .args .start ≤ r .from) × (r .from ≤ length (l .before .before .before .before .args .input .now))
-    × AnsweredUpTo (l .before .before .before .before .args .replay) (l .before .before .before .before .args .out .now)
-    (cut (drop (l .before .before .before .before .args .start) (l .before .before .before .before .args .input .now)))
-    (r .replay) (l .loop .out) (cut (drop (r .from) (l .before .before .before .before .args .input .now)))
-passed l r p =
-    let e : r .replay ≡ state (l .loop .book) (l .loop .row) (l .loop .at) (l .loop .intact) = λ i. record { book = p .0 i; row = p .3 i; at = p .1 i; intact = p .4 i } in
-    (rw (p .0) (l .loop .inv .0), omega (arith, p .1, l .loop .inv .1), omega (arith, p .2, l .loop .inv .2), omega (arith, p .2, l .loop .inv .3), rw (e, p .2) (l .loop .inv .5))
 
 -- where the effect of its event is known
 module _ (f : tie.After-effect Inv-loop μ-loop) where
@@ -82,10 +74,11 @@ effected c = c .before .before .before .before .before .before .before .before .
 abbrev answer-of : tie.After-slice-known2 Inv-loop μ-loop → tie.After-answer Inv-loop μ-loop
 answer-of c = c .before .before .before .before .before
 
+-- ---- the loop begins, and ends at the first other row
 loop-holds : tie.Need-loop-holds Inv-loop μ-loop
 loop-holds c =
     let s = c .before .before .before in
-    (s .pre .0, s .pre .1, omega arith, s .pre .3, refl, up-to-none (s .args .replay) (s .args .out .now) _)
+    (refl, record { answered = up-to-none (s .args .replay) (s .args .out .now) _; later = omega arith; within = s .pre .1; ready = s .pre .0 })
 
 series-row-requires : tie.Need-series-row-requires Inv-loop μ-loop
 series-row-requires c κs = search needs
@@ -100,11 +93,12 @@ up-to-requires : tie.Need-up-to-requires Inv-loop μ-loop
 up-to-requires c κs = search needs
 
 same-length : tie.Need-same-length Inv-loop μ-loop
-same-length c = omega (arith, c .before .before .before .before .loop .inv .4)
+same-length c = c .before .before .before .before .loop .inv .0
 
 returns : tie.Need-returns Inv-loop μ-loop
-returns c = passed (c .before .before .before .before) (c .up-to .result) (c .up-to .ensures)
+returns c = rw (c .up-to .ensures) (c .before .before .before .before .loop .inv .1)
 
+-- ---- what the event does to its series
 mul-s : tie.Need-mul-s Inv-loop μ-loop
 mul-s c = omega (arith, row c .room)
 
@@ -114,13 +108,12 @@ element-copy-out-s c = row c .room
 effect-requires : tie.Need-effect-requires Inv-loop μ-loop
 effect-requires c κs =
     let r = c .before .before .before .before in
-    let g = top r .loop .inv .0 in
-    (g .series (series-at r) (row r .room) .positions .bounded, rw (← row r .series) (g .tick (series-at r)))
+    (good r .series (series-at r) (row r .room) .positions .bounded, rw (← row r .series) (good r .tick (series-at r)))
 
 move-positions-requires : tie.Need-move-positions-requires Inv-loop μ-loop
 move-positions-requires c κs =
     let r = row-of (c .before) in
-    (fits (c .before), top r .loop .inv .0 .series (series-at r) (row r .room) .positions .bounded)
+    (fits (c .before), good r .series (series-at r) (row r .room) .positions .bounded)
 
 set-request-requires : tie.Need-set-request-requires Inv-loop μ-loop
 set-request-requires c κs = fits (c .before .before .before)
@@ -137,6 +130,7 @@ mul-t25 c = omega (arith, row (row-of (c .before .before .before .before .before
 element-set-from-book : tie.Need-element-set-from-book Inv-loop μ-loop
 element-set-from-book c = row (row-of (c .before .before .before .before .before .before .before .before)) .room
 
+-- ---- the blotter
 next-record-requires : tie.Need-next-record-requires Inv-loop μ-loop
 next-record-requires c κs = search needs
 
@@ -156,8 +150,9 @@ element-set-from-joined : tie.Need-element-set-from-joined Inv-loop μ-loop
 element-set-from-joined c = record-of (c .before .before)
 
 counted-requires : tie.Need-counted-requires Inv-loop μ-loop
-counted-requires c κs = top (row-of (c .before .before .before .before .before .before .before .before .before .before .before)) .loop .inv .0 .trades
+counted-requires c κs = good (row-of (c .before .before .before .before .before .before .before .before .before .before .before)) .trades
 
+-- ---- the answer, and the next turn
 answer-requires : tie.Need-answer-requires Inv-loop μ-loop
 answer-requires c κs = search needs
 
@@ -166,8 +161,8 @@ wrapping-add-u64-requires c κs = search needs
 
 put-answer-requires : tie.Need-put-answer-requires Inv-loop μ-loop
 put-answer-requires c κs =
-    let l = top (row-of (effected (c .before .before))) in
-    (l .loop .inv .1, omega (arith, l .loop .inv .4, l .before .before .before .before .pre .2))
+    let r = top (row-of (effected (c .before .before))) .loop .inv .1 .ready in
+    (r .waiting, r .room)
 
 loop-less : tie.Need-loop-less Inv-loop μ-loop
 loop-less c =
@@ -180,6 +175,7 @@ loop-again c =
     let f = effected a in
     let o = row-of f in
     let l = top o .loop in
+    let p = l .inv .1 in
     let r = row o in
     let s = step-stored (l .book) (event o) _ (r .series) _ (f .effect .ensures) _ (a .before .before .before .before .next-record .ensures) (r .room)
     (a .answer .ensures)
@@ -190,18 +186,20 @@ loop-again c =
     (a .before .before .joined .ensures)
     (a .before .counted .ensures) in
     let n = c .before .before .before .before .wrapping-add-u64 in
-    let w = c .before .before .put-answer in (
-      stays-good (l .book) (event o) _ (l .inv .0) s,
-      w .ensures .0,
-      omega (arith, r .later, l .inv .2),
-      r .within,
-      omega (arith, w .kept .0, l .inv .4),
-      up-to-next (rw (r .first) at (l .inv .5))
-          (lines-answered (ap (λ (x : Step). x .book) s ∙ book-accepted (l .book) (r .says)) (n .ensures)
-          (rw (← series-line (n .result) (l .book) (l .inv .0) (event o) (rw (← r .series) (r .room)) (ap (λ (x : Step). x .answer) s) (r .says)) (w .ensures .1))
-          (w .ensures .2)),
+    let w = c .before .before .put-answer in
+    let k : length (w .last .0) ≡ length (l .out) = w .kept .0 in (
+      omega (arith, k, l .inv .0),
+      record {
+        answered = up-to-next (rw (r .first) at (p .answered))
+            (lines-answered (ap (λ (x : Step). x .book) s ∙ book-accepted (l .book) (r .says)) (n .ensures)
+            (rw (← series-line (n .result) (l .book) (good o) (event o) (rw (← r .series) (r .room)) (ap (λ (x : Step). x .answer) s) (r .says)) (w .ensures)));
+        later = omega (arith, r .later, p .later);
+        within = r .within;
+        ready = record { good = stays-good (l .book) (event o) _ (good o) s; waiting = w .ensures .room; room = omega (arith, k, p .ready .room) };
+      },
     )
 
+-- ---- all of it
 pub series-rows-spec : {M : Type 1} → statement M
 series-rows-spec =
     tie.close
