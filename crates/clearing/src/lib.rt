@@ -4,6 +4,7 @@ mod whole; // whole.rt: events on the whole book
 use book::state::Book;
 use book::state::Event;
 use book::state::Step;
+use book::state::Today;
 use listing::change::new_series;
 use margin::trade::Trade;
 use series::state::Listing;
@@ -59,28 +60,28 @@ pub fn step(mut book: Book, event: Event) -> Step
     }
     let mut s = book.series[i];
     let listing = s.listing;
-    let effect = effect::effect(
-        listing,
-        &s.positions,
-        book.day,
-        book.listed,
-        book.trades,
-        event,
-    );
+    let mark = s.mark;
+    let today = Today {
+        day: book.day,
+        listed: book.listed,
+        trades: book.trades,
+    };
+    let n = apply::next_record(book.trades);
+    let standing = book.blotter[n];
+    let change = in_place::change(today, listing, mark, standing, &s.positions, event);
+    let effect = change.effect;
     apply::move_positions(&mut s.positions, effect);
     apply::set_request(&mut s.requests, effect);
-    apply::set_refusal(&mut s.declined, effect);
-    let mark = s.mark;
-    let marked = apply::mark(mark, effect);
+    apply::set_decline(&mut s.declined, effect);
+    let marked = change.mark;
     s.mark = marked;
     book.series[i] = s;
-    let n = apply::next_record(book.trades);
-    let next = book.blotter[n];
-    let joined = apply::joined(next, effect);
-    book.blotter[n] = joined;
-    book.trades = apply::counted(book.trades, effect);
+    let entry = change.entry;
+    book.blotter[n] = entry;
+    book.trades = change.trades;
+    let answer = change.answer;
     Step {
-        answer: apply::answer(effect),
+        answer: answer,
         money: [0i64; ACCOUNTS],
         book: book,
     }

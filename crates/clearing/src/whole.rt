@@ -8,9 +8,9 @@ use sessions::intraday;
 ghost use mathlib.Core.Path.{_≡_};
 ghost use Prim.Native.Nat.{_≤_};
 ghost use Rattle.terms.specs.Bounds.{seriesRoom};
+ghost use Rattle.book.specs.Effects.{seriesOf};
 ghost use Rattle.book.specs.Good.{Good};
 ghost use Rattle.book.specs.Step as rule;
-ghost use Rattle.book.specs.Verdicts.{seriesOf};
 
 // An event on the whole book, or on a series whose number is past every series.
 pub fn whole(book: Book, event: Event) -> Step
@@ -18,17 +18,11 @@ pub fn whole(book: Book, event: Event) -> Step
     ensures { λ r. ⌜ r ≡ rule.stepOf book event ⌝ }
 {
     match event {
-        Event::List {
-            option,
-            category,
-            strike,
-            tick,
-            last,
-        } => list(book, option, category, strike, tick, last),
-        Event::Trade { .. } => no_such_series(book),
-        Event::Exercise { .. } => no_such_series(book),
-        Event::Decline { .. } => no_such_series(book),
-        Event::Mark { .. } => no_such_series(book),
+        Event::List(new) => list(book, new),
+        Event::Trade(_) => no_such_series(book),
+        Event::Exercise(_) => no_such_series(book),
+        Event::Decline(_) => no_such_series(book),
+        Event::Mark(_) => no_such_series(book),
         Event::Intraday => intraday(book),
         Event::Evening => evening(book),
     }

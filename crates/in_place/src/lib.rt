@@ -1,10 +1,7 @@
-// An event on one series, carried out in the arrays of that series where they stand.
+// An event on one series: all that it changes beside the arrays of that series, where its effect is then stored in place.
 use apply::answer;
 use apply::counted;
 use apply::entry;
-use apply::move_positions;
-use apply::set_decline;
-use apply::set_request;
 use book::state::Change;
 use book::state::Event;
 use book::state::Today;
@@ -12,27 +9,23 @@ use exercise::types::PLACES;
 use margin::trade::Trade;
 use series::state::Listing;
 use series::state::Mark;
-ghost use Rattle.book.specs.Effects.{effectOf, OnSeries, Parts};
+ghost use Rattle.book.specs.Effects.{OnSeries, Changed};
 
-// The event is carried out in the arrays, or refused. `standing` is the blotter's next record.
-pub fn carry_out(
+// The change that an event makes in a series of this listing, mark and positions. `standing` is the blotter's next record.
+pub fn change(
     today: Today,
     listing: Listing,
     mark: Mark,
     standing: Trade,
-    positions: &mut [i32; PLACES],
-    requests: &mut [u32; PLACES],
-    declined: &mut [bool; PLACES],
+    positions: &[i32; PLACES],
     event: Event,
 ) -> Change
     requires { ⌜ OnSeries today listing (now positions) event ⌝ }
-    ensures { λ r. ⌜ Parts (effectOf today listing (now (positions .entry)) event) mark standing (today .trades) (now (positions .entry)) (now (requests .entry)) (now (declined .entry)) r (now (positions .exit)) (now (requests .exit)) (now (declined .exit)) ⌝ }
+    ensures { λ r. ⌜ Changed today listing mark standing (now (positions .entry)) event r ⌝ }
 {
     let effect = effect::effect(today, listing, positions, event);
-    move_positions(positions, effect);
-    set_request(requests, effect);
-    set_decline(declined, effect);
     Change {
+        effect: effect,
         mark: apply::mark(mark, effect),
         entry: entry(standing, effect),
         trades: counted(today.trades, effect),

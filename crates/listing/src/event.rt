@@ -4,49 +4,39 @@ use book::state::Answer;
 use book::state::Book;
 use book::state::Event;
 use book::state::Step;
+use book::state::Today;
 use refusing::refused;
-use series::refusal::Refusal;
+use series::event::NewSeries;
 use series::refusal::Verdict;
 use series::state::Listing;
-use terms::Category;
-use terms::OptionType;
 use terms::bounds::ACCOUNTS;
-use terms::bounds::FINAL_DAY;
-use terms::bounds::SERIES;
 ghost use mathlib.Core.Path.{_≡_};
-ghost use Rattle.series.specs.declared.refusal.Refusal.the-variants.{Finished};
 ghost use Rattle.book.specs.Good.{Good};
 ghost use Rattle.book.specs.Step as rule;
 ghost use Rattle.book.specs.declared.state.Event as happening;
 
 // A listing takes the next series number.
-pub fn list(
-    mut book: Book,
-    option: OptionType,
-    category: Category,
-    strike: u64,
-    tick: u64,
-    last: u64,
-) -> Step
+pub fn list(mut book: Book, new: NewSeries) -> Step
     requires { ⌜ Good book ⌝ }
-    ensures { λ r. ⌜ r ≡ rule.stepOf book (happening.Event.List option category strike tick last) ⌝ }
+    ensures { λ r. ⌜ r ≡ rule.stepOf book (happening.Event.List new) ⌝ }
 {
-    if FINAL_DAY < book.day {
-        return refused(book, Refusal::Finished);
-    }
-    if let Verdict::Refused(why) = list_verdict(book.day, strike, tick, last) {
+    let n = book.listed;
+    let today = Today {
+        day: book.day,
+        listed: n,
+        trades: book.trades,
+    };
+    if let Verdict::Refused(why) = list_verdict(today, new) {
         return refused(book, why);
     }
-    let n = book.listed;
-    if SERIES <= n {
-        return refused(book, Refusal::SeriesFull);
-    }
+    let option = new.option;
+    let category = new.category;
     let listing = Listing {
         option: option,
         category: category,
-        strike: strike as u32,
-        tick: tick as u32,
-        last_day: last as u32,
+        strike: new.strike as u32,
+        tick: new.tick as u32,
+        last_day: new.last_day as u32,
     };
     let s = change::new_series(listing);
     book.series[n] = s;

@@ -1,34 +1,42 @@
 // The conditions, tested in the order of the refusals' numbers.
+use book::state::Today;
+use series::event::NewSeries;
 use series::refusal::Refusal;
 use series::refusal::Verdict;
 use terms::bounds::FINAL_DAY;
 use terms::bounds::MAX_STRIKE;
 use terms::bounds::MAX_TICK;
+use terms::bounds::SERIES;
 ghost use mathlib.Core.Path.{_≡_};
-ghost use Prim.Native.Nat.{_<_};
-ghost use Rattle.series.specs.Verdicts as rule;
+ghost use Rattle.book.specs.Verdicts as rule;
 
-// May a series be listed with these terms?
-pub fn list_verdict(day: u32, strike: u64, tick: u64, last: u64) -> Verdict
-    ensures { λ r. ⌜ r ≡ rule.listVerdict day strike tick last ⌝ }
+// May this series be listed?
+pub fn list_verdict(today: Today, new: NewSeries) -> Verdict
+    ensures { λ r. ⌜ r ≡ rule.listVerdict today new ⌝ }
 {
-    if strike < 1 {
+    if FINAL_DAY < today.day {
+        return Verdict::Refused(Refusal::Finished);
+    }
+    if new.strike < 1 {
         return Verdict::Refused(Refusal::Terms);
     }
-    if MAX_STRIKE < strike {
+    if MAX_STRIKE < new.strike {
         return Verdict::Refused(Refusal::Terms);
     }
-    if tick < 1 {
+    if new.tick < 1 {
         return Verdict::Refused(Refusal::Terms);
     }
-    if MAX_TICK < tick {
+    if MAX_TICK < new.tick {
         return Verdict::Refused(Refusal::Terms);
     }
-    if last < day as u64 {
+    if new.last_day < today.day as u64 {
         return Verdict::Refused(Refusal::Terms);
     }
-    if (FINAL_DAY as u64) < last {
+    if (FINAL_DAY as u64) < new.last_day {
         return Verdict::Refused(Refusal::Terms);
+    }
+    if SERIES <= today.listed {
+        return Verdict::Refused(Refusal::SeriesFull);
     }
     Verdict::Allowed
 }

@@ -6,11 +6,11 @@ use series::refusal::Refusal;
 use terms::bounds::ACCOUNTS;
 use terms::bounds::FINAL_DAY;
 ghost use mathlib.Core.Path.{_≡_};
-ghost use lib.Dec.{ltb};
 ghost use Rattle.choice.specs.Choice.{choose};
-ghost use Rattle.terms.specs.Bounds.{finalDay};
 ghost use Rattle.series.specs.declared.refusal.Refusal.the-variants.{Finished, UnknownSeries};
+ghost use Rattle.book.specs.State.{todayOf};
 ghost use Rattle.book.specs.Step as rule;
+ghost use Rattle.book.specs.Verdicts.{finished};
 
 // A refused event leaves the book as it stood and pays nobody.
 pub fn refused(book: Book, why: Refusal) -> Step
@@ -25,7 +25,7 @@ pub fn refused(book: Book, why: Refusal) -> Step
 
 // An event on a series whose number is past every series.
 pub fn no_such_series(book: Book) -> Step
-    ensures { λ r. ⌜ r ≡ rule.refused book (choose (ltb finalDay (book .day)) Finished UnknownSeries) ⌝ }
+    ensures { λ r. ⌜ r ≡ rule.refused book (choose (finished (todayOf book)) Finished UnknownSeries) ⌝ }
 {
     if FINAL_DAY < book.day {
         return refused(book, Refusal::Finished);

@@ -2,12 +2,14 @@
 use mathlib.Core.Path.{_≡_}
 use Prim.Native.Nat.{_<_}
 use native.Mathlib.Omega.{arith}
-use Rattle.terms.specs.Bounds.{blotterRoom}
+use Rattle.terms.specs.Bounds.{blotterRoom, maxPosition}
+use Rattle.integer.specs.Bounds.{Bounded}
 use Rattle.book.specs.Effects.{Fits}
 use Rattle.book.specs.Good.{Good}
+use Rattle.book.specs.State.{seriesAt}
 use Rattle.book.specs.Step.{stepOf}
 use Rattle.book.specs.declared.state.Step.{Step}
-use Rattle.book.proofs.Effects.{next-record-within, effect-fits, step-stored}
+use Rattle.book.proofs.Effects.{next-record-within, change-fits, step-stored}
 use Rattle.book.proofs.Keeps.{stays-good}
 use borrow.Author.Needs.{needs}
 use Rattle.clearing.proofs.step.Statement.{statement}
@@ -16,20 +18,18 @@ use Rattle.clearing.proofs.step.Tie as tie
 stepped : (c : tie.Start) {r : Step} → r ≡ stepOf (c .args .t1) (c .args .event) → (r ≡ stepOf (c .args .t1) (c .args .event)) × Good (r .book)
 stepped c is = (is, stays-good (c .args .t1) (c .args .event) _ (c .pre) is)
 
--- where the effect is known
-abbrev start : tie.After-effect → tie.Start
-start f = f .before .before .before .before .before .before .before
+-- where the change is known
+abbrev start : tie.After-change → tie.Start
+start c = c .before .before .before .before .before .before .before .before .before .before
 
-abbrev effected : tie.After-answer → tie.After-effect
-effected c = c .before .before .before .before .before .before .before .before .before .before .before .before .before
+bounded : (c : tie.After-change) → Bounded maxPosition (seriesAt (start c .args .t1) (c .before .before .before .before .before .before .before .before .before .series-of .result) .positions)
+bounded c = start c .pre .series (c .before .before .before .before .before .before .before .before .before .series-of .result) (c .before .before .before .before .before .before .before .before .if1 .left) .positions .bounded
 
-fits : (f : tie.After-effect) → Fits (f .effect .result)
-fits f =
-    let s = start f in
-    effect-fits (s .args .t1) (s .args .event) _ (f .before .before .before .before .before .before .series-of .ensures) _ (f .effect .ensures)
+fits : (c : tie.After-change) → Fits (c .change .result .effect)
+fits c = change-fits (c .change .ensures) (bounded c)
 
 record-of : (c : tie.After-next-record) → c .next-record .result < blotterRoom
-record-of c = next-record-within _ (c .next-record .ensures)
+record-of c = rw (c .next-record .ensures) (next-record-within _)
 
 series-of-requires : tie.Need-series-of-requires
 series-of-requires c κs = search needs
@@ -46,69 +46,53 @@ mul-s c = search needs
 element-copy-out-s : tie.Need-element-copy-out-s
 element-copy-out-s c = search needs
 
-effect-requires : tie.Need-effect-requires
-effect-requires c κs =
-    let s = c .before .before .before .before .before .before in
-    let n = c .before .before .before .before .before .series-of in
-    let lt = c .before .before .before .before .if1 .left in
-    (s .pre .series (n .result) lt .positions .bounded, rw (← n .ensures) (s .pre .tick (n .result)))
+next-record-requires : tie.Need-next-record-requires
+next-record-requires c κs = search needs
+
+mul-standing : tie.Need-mul-standing
+mul-standing c = omega (arith, record-of c)
+
+element-copy-out-standing : tie.Need-element-copy-out-standing
+element-copy-out-standing c = record-of c
+
+change-requires : tie.Need-change-requires
+change-requires c κs = 
+    let s = c .before .before .before .before .before .before .before .before .before in
+    let n = c .before .before .before .before .before .before .before .before .series-of in
+    record {
+      bounded = s .pre .series (n .result) (c .before .before .before .before .before .before .before .if1 .left) .positions .bounded;
+      tick = rw (← n .ensures) (s .pre .tick (n .result));
+      trades = s .pre .trades;
+    }
 
 move-positions-requires : tie.Need-move-positions-requires
-move-positions-requires c κs = (fits (c .before), start (c .before) .pre .series (c .before .before .before .before .before .before .before .series-of .result) (c .before .before .before .before .before .before .if1 .left) .positions .bounded)
+move-positions-requires c κs = (fits (c .before), bounded (c .before))
 
 set-request-requires : tie.Need-set-request-requires
 set-request-requires c κs = fits (c .before .before .before)
 
-set-refusal-requires : tie.Need-set-refusal-requires
-set-refusal-requires c κs = fits (c .before .before .before .before .before)
+set-decline-requires : tie.Need-set-decline-requires
+set-decline-requires c κs = fits (c .before .before .before .before .before)
 
-mark-requires : tie.Need-mark-requires
-mark-requires c κs = search needs
-
-mul-t15 : tie.Need-mul-t15
-mul-t15 c = search needs
+mul-t18 : tie.Need-mul-t18
+mul-t18 c = search needs
 
 element-set-from-book : tie.Need-element-set-from-book
 element-set-from-book c = search needs
 
-next-record-requires : tie.Need-next-record-requires
-next-record-requires c κs = search needs
+mul-entry : tie.Need-mul-entry
+mul-entry c = omega (arith, record-of (c .before .before .before .before .before .before .before .before .before .before .before .before))
 
-mul-next : tie.Need-mul-next
-mul-next c = omega (arith, record-of c)
-
-element-copy-out-next : tie.Need-element-copy-out-next
-element-copy-out-next c = record-of c
-
-joined-requires : tie.Need-joined-requires
-joined-requires c κs = search needs
-
-mul-joined : tie.Need-mul-joined
-mul-joined c = omega (arith, record-of (c .before .before))
-
-element-set-from-joined : tie.Need-element-set-from-joined
-element-set-from-joined c = record-of (c .before .before)
-
-counted-requires : tie.Need-counted-requires
-counted-requires c κs = search needs
-
-answer-requires : tie.Need-answer-requires
-answer-requires c κs = search needs
+element-set-from-entry : tie.Need-element-set-from-entry
+element-set-from-entry c = record-of (c .before .before .before .before .before .before .before .before .before .before .before .before)
 
 returns-2 : tie.Need-returns-2
-returns-2 c =
-    let f = effected c in
-    let s = start f in
+returns-2 c = 
+    let h = c .before .before .before .before .before .before .before .before in
+    let s = start h in
     stepped s
-    (step-stored (s .args .t1) (s .args .event) _ (f .before .before .before .before .before .before .series-of .ensures) _ (f .effect .ensures)
-    _ (c .before .before .before .before .next-record .ensures) (f .before .before .before .before .before .if1 .left)
-    (c .answer .ensures)
-    (c .before .before .before .before .before .before .before .before .before .before .before .move-positions .ensures)
-    (c .before .before .before .before .before .before .before .before .before .set-request .ensures)
-    (c .before .before .before .before .before .before .before .set-refusal .ensures)
-    (c .before .before .before .before .before .mark2 .ensures)
-    (c .before .before .joined .ensures)
-    (c .before .counted .ensures))
+    (step-stored (s .args .t1) (s .args .event) _ _ (h .before .before .before .before .before .before .before .before .before .series-of .ensures) (h .before .before .before .before .before .before .before .before .if1 .left) (h .before .before .before .before .next-record .ensures) (h .change .ensures)
+    (c .before .before .before .before .before .before .move-positions .ensures) (c .before .before .before .before .set-request .ensures) (c .before .before .set-decline .ensures))
 
 pub step-spec : {M : Type 1} → statement M
 step-spec =
@@ -119,19 +103,15 @@ step-spec =
     returns
     mul-s
     element-copy-out-s
-    effect-requires
+    next-record-requires
+    mul-standing
+    element-copy-out-standing
+    change-requires
     move-positions-requires
     set-request-requires
-    set-refusal-requires
-    mark-requires
-    mul-t15
+    set-decline-requires
+    mul-t18
     element-set-from-book
-    next-record-requires
-    mul-next
-    element-copy-out-next
-    joined-requires
-    mul-joined
-    element-set-from-joined
-    counted-requires
-    answer-requires
+    mul-entry
+    element-set-from-entry
     returns-2)

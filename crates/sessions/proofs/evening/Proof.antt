@@ -14,7 +14,7 @@ use Rattle.book.specs.State.{noMoney}
 use Rattle.book.specs.declared.state.Answer.the-variants.{Done}
 use Rattle.book.specs.declared.state.Event.the-variants.{Evening}
 use Rattle.book.proofs.Money.{evening-margin-within, evening-within, cash-bounded}
-use Rattle.book.proofs.Outcome.{by-refusal, by-allowance, mark-missing, none-missing}
+use Rattle.book.proofs.Decided.{by-refusal, by-allowance, mark-missing, none-missing}
 use Rattle.book.proofs.SessionMoney.{settled-bounded, evening-is, paid-into}
 use borrow.Author.Needs.{needs}
 use Rattle.sessions.proofs.evening.Statement.{statement}

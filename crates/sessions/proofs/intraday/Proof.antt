@@ -10,7 +10,7 @@ use Rattle.book.specs.Sessions.{intradayMoney, paidInto}
 use Rattle.book.specs.declared.state.Answer.the-variants.{Done}
 use Rattle.book.specs.declared.state.Event.the-variants.{Intraday}
 use Rattle.book.proofs.Money.{intraday-within, cash-bounded}
-use Rattle.book.proofs.Outcome.{by-refusal, by-allowance, mark-missing, none-missing}
+use Rattle.book.proofs.Decided.{by-refusal, by-allowance, mark-missing, none-missing}
 use Rattle.book.proofs.SessionMoney.{unmarked-bounded, intraday-is, paid-into}
 use borrow.Author.Needs.{needs}
 use Rattle.sessions.proofs.intraday.Statement.{statement}

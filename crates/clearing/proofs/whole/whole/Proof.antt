@@ -1,17 +1,18 @@
 -- `clearing::whole::whole` meets its contract: each arm is its event.
 use mathlib.Core.Path.{_≡_, refl, sym, ap, _∙_}
 use native.Mathlib.Omega.{arith}
-use lib.Dec.{ltb}
 use Rattle.choice.specs.Choice.{choose}
-use Rattle.terms.specs.Bounds.{finalDay}
 use Rattle.series.specs.declared.refusal.Refusal.the-variants.{Finished, UnknownSeries}
 use Rattle.series.specs.declared.refusal.Verdict.{Verdict}
+use Rattle.series.specs.declared.refusal.Verdict.the-variants.{Refused}
+use Rattle.book.specs.Effects.{seriesOf}
+use Rattle.book.specs.State.{todayOf}
 use Rattle.book.specs.Step.{stepOf, refused}
-use Rattle.book.specs.Verdicts.{seriesOf, onSeries, verdictOf}
+use Rattle.book.specs.Verdicts.{finished, unlisted, verdictOf}
 use Rattle.book.specs.declared.state.Event.{Event}
 use Rattle.book.specs.declared.state.Event.the-variants.{Trade, Exercise, Decline, Mark}
 use Rattle.book.specs.declared.state.Step.{Step}
-use Rattle.book.proofs.Outcome.{by-refusal}
+use Rattle.book.proofs.Decided.{by-refusal}
 use Rattle.book.proofs.Effects.{no-such-series}
 use borrow.Author.Needs.{needs}
 use Rattle.clearing.proofs.whole.whole.Statement.{statement}
@@ -22,10 +23,11 @@ matched : (c : tie.Start) (e : Event) (r : Step) → r ≡ stepOf (c .args .book
 matched c e r p q = p ∙ ap (stepOf (c .args .book)) (sym q)
 
 -- an event on a series whose number is past every series
-unlisted : (c : tie.Start) (e : Event) (v : Verdict) → verdictOf (c .args .book) e ≡ onSeries (c .args .book .day) (c .args .book .listed) (seriesOf e) v
-    → {r : Step} → r ≡ refused (c .args .book) (choose (ltb finalDay (c .args .book .day)) Finished UnknownSeries) → c .args .event ≡ e
+past-all : (c : tie.Start) (e : Event) (v : Verdict)
+    → verdictOf (c .args .book) e ≡ choose (finished (todayOf (c .args .book))) (Refused Finished) (choose (unlisted (todayOf (c .args .book)) (seriesOf e)) (Refused UnknownSeries) v)
+    → {r : Step} → r ≡ refused (c .args .book) (choose (finished (todayOf (c .args .book))) Finished UnknownSeries) → c .args .event ≡ e
     → r ≡ stepOf (c .args .book) (c .args .event)
-unlisted c e v is p q =
+past-all c e v is p q =
     matched c e _
     (by-refusal (c .args .book) e p (no-such-series (c .args .book) (seriesOf e) v (omega (arith, c .pre .0 .listed, c .pre .1, ap seriesOf q)) ∙ sym is)) q
 
@@ -75,16 +77,16 @@ returns : tie.Need-returns
 returns c = matched (c .before .before .before .before) _ _ (c .list .ensures) (c .before .before .event .given .1)
 
 returns-2 : tie.Need-returns-2
-returns-2 c = unlisted (c .before .before .before) (Trade _ _ _ _ _) _ refl (c .no-such-series .ensures) (c .before .enum-told .given .1)
+returns-2 c = past-all (c .before .before .before) (Trade _) _ refl (c .no-such-series .ensures) (c .before .enum-told .given .1)
 
 returns-3 : tie.Need-returns-3
-returns-3 c = unlisted (c .before .before .before) (Exercise _ _ _) _ refl (c .no-such-series2 .ensures) (c .before .enum-told2 .given .1)
+returns-3 c = past-all (c .before .before .before) (Exercise _) _ refl (c .no-such-series2 .ensures) (c .before .enum-told2 .given .1)
 
 returns-4 : tie.Need-returns-4
-returns-4 c = unlisted (c .before .before .before) (Decline _ _) _ refl (c .no-such-series3 .ensures) (c .before .enum-told3 .given .1)
+returns-4 c = past-all (c .before .before .before) (Decline _) _ refl (c .no-such-series3 .ensures) (c .before .enum-told3 .given .1)
 
 returns-5 : tie.Need-returns-5
-returns-5 c = unlisted (c .before .before .before) (Mark _ _ _ _) _ refl (c .no-such-series4 .ensures) (c .before .enum-told4 .given .1)
+returns-5 c = past-all (c .before .before .before) (Mark _) _ refl (c .no-such-series4 .ensures) (c .before .enum-told4 .given .1)
 
 returns-6 : tie.Need-returns-6
 returns-6 c = matched (c .before .before .before) _ _ (c .intraday .ensures) (c .before .enum-told5 .given .1)

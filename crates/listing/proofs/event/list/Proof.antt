@@ -1,36 +1,27 @@
--- `listing::event::list` meets its contract: its tests are those of the verdict, in their order.
+-- `listing::event::list` meets its contract: the step by the verdict.
 use mathlib.Core.Path.{sym, _∙_}
 use Prim.Native.Nat.{_+_}
 use native.Mathlib.Omega.{arith}
-use lib.ListN.{set}
-use Rattle.choice.proofs.Chain.{hit, past, tests}
-use Rattle.series.proofs.Allowed.{ListAllowed, list-allowed}
-use Rattle.book.specs.State.{noMoney}
+use Rattle.book.specs.State.{noMoney, todayOf, withListed, withSeries}
 use Rattle.book.specs.declared.state.Answer.the-variants.{Listed}
 use Rattle.book.specs.declared.state.Event.{Event}
 use Rattle.book.specs.declared.state.Event.the-variants.{List}
-use Rattle.book.proofs.Outcome.{by-refusal, by-allowance, then-refused, then-allowed, verdict-is}
+use Rattle.book.proofs.Allowed.{ListAllowed, list-allowed}
+use Rattle.book.proofs.Decided.{by-refusal, by-allowance, verdict-is}
 use borrow.Author.Needs.{needs}
 use Rattle.listing.proofs.event.list.Statement.{statement}
 use Rattle.listing.proofs.event.list.Tie as tie
 
 abbrev event : tie.Start → Event
-event c = List (c .args .option) (c .args .category) (c .args .strike) (c .args .tick) (c .args .last)
+event c = List (c .args .new)
 
 abbrev start : tie.After-enum-told → tie.Start
-start c = c .before .before .before .before
+start c = c .before .before .before
 
 -- the terms are allowed
-allowed : (c : tie.After-enum-told) → ListAllowed (start c .args .t1 .day) (start c .args .strike) (start c .args .tick) (start c .args .last)
+allowed : (c : tie.After-enum-told) → ListAllowed (todayOf (start c .args .t1)) (start c .args .new)
 allowed c =
-    list-allowed (start c .args .t1 .day) (start c .args .strike) (start c .args .tick) (start c .args .last)
-    (sym (c .before .before .list-verdict .ensures) ∙ c .enum-told .given .1)
-
-refused-requires : tie.Need-refused-requires
-refused-requires c κs = search needs
-
-returns : tie.Need-returns
-returns c = by-refusal _ (event (c .before .before)) (c .refused .ensures) (search (hit, past, tests) depth 12)
+    list-allowed (todayOf (start c .args .t1)) (start c .args .new) (sym (c .before .before .list-verdict .ensures) ∙ c .enum-told .given .1)
 
 list-verdict-requires : tie.Need-list-verdict-requires
 list-verdict-requires c κs = search needs
@@ -38,87 +29,67 @@ list-verdict-requires c κs = search needs
 enum-known-why : tie.Need-enum-known-why
 enum-known-why c = search needs
 
-refused-requires-2 : tie.Need-refused-requires-2
-refused-requires-2 c κs = search needs
+refused-requires : tie.Need-refused-requires
+refused-requires c κs = search needs
 
-returns-2 : tie.Need-returns-2
-returns-2 c = by-refusal _ (event (c .before .before .before .before .before .before)) (c .refused2 .ensures) (past _ (search tests) (then-refused _ (search verdict-is)))
+returns : tie.Need-returns
+returns c = by-refusal _ (event (c .before .before .before .before .before)) (c .refused .ensures) (verdict-is (c .before .before .before .before .list-verdict .ensures) (c .before .before .why .given .1))
 
 enum-told : tie.Need-enum-told
 enum-told c = search needs
 
-refused-requires-3 : tie.Need-refused-requires-3
-refused-requires-3 c κs = search needs
+cast-t11 : tie.Need-cast-t11
+cast-t11 c = omega (arith, allowed (c .before) .strike-most)
 
-returns-3 : tie.Need-returns-3
-returns-3 c =
-    by-refusal _ (event (start (c .before .before))) (c .refused3 .ensures)
-    (past _ (search tests) (then-allowed (search verdict-is) (search (hit, past, tests))))
+cast-t15 : tie.Need-cast-t15
+cast-t15 c = omega (arith, allowed (c .before .before) .tick-most)
 
-cast-t12 : tie.Need-cast-t12
-cast-t12 c = omega (arith, allowed (c .before) .strike-most)
-
-cast-t20 : tie.Need-cast-t20
-cast-t20 c = omega (arith, allowed (c .before) .tick-most)
-
-cast-t21 : tie.Need-cast-t21
-cast-t21 c = omega (arith, allowed (c .before) .last-most)
+cast-t16 : tie.Need-cast-t16
+cast-t16 c = omega (arith, allowed (c .before .before .before) .last-most)
 
 new-series-requires : tie.Need-new-series-requires
 new-series-requires c κs = search needs
 
 mul-s : tie.Need-mul-s
-mul-s c = search needs
+mul-s c = omega (arith, allowed (c .before .before .before .before) .room)
 
 element-set-from-s : tie.Need-element-set-from-s
-element-set-from-s c = search needs
+element-set-from-s c = allowed (c .before .before .before .before) .room
 
 add-book : tie.Need-add-book
-add-book c = search needs
+add-book c = omega (arith, allowed (c .before .before .before .before) .room)
 
-cast-t25 : tie.Need-cast-t25
-cast-t25 c = search needs
+cast-t19 : tie.Need-cast-t19
+cast-t19 c = omega (arith, allowed (c .before .before .before .before) .room)
 
-returns-4 : tie.Need-returns-4
-returns-4 c =
-    let s = start (c .before .before) in
+returns-2 : tie.Need-returns-2
+returns-2 c =
+    let told = c .before .before .before .before in
+    let s = start told in
     let k = s .args .t1 in
     by-allowance _ (event s)
     (λ i. record {
       answer = Listed (k .listed);
       money = noMoney;
-      book = record {
-        day = k .day;
-        listed = k .listed + 1;
-        series = set (k .series) (k .listed) (c .new-series .ensures i);
-        blotter = k .blotter;
-        trades = k .trades;
-        «intraday_done» = k .«intraday_done»;
-        «intraday_paid» = k .«intraday_paid»;
-        cash = k .cash;
-      };
+      book = withListed (withSeries k (k .listed) (c .new-series .ensures i)) (k .listed + 1);
     })
-    (past _ (search tests) (then-allowed (search verdict-is) (search (hit, past, tests))))
+    (verdict-is (told .before .before .list-verdict .ensures) (told .enum-told .given .1))
 
 pub list-spec : {M : Type 1} → statement M
 list-spec =
     tie.close
     (tie.spec
-    refused-requires
-    returns
     list-verdict-requires
     enum-known-why
-    refused-requires-2
-    returns-2
+    refused-requires
+    returns
     enum-told
-    refused-requires-3
-    returns-3
-    cast-t12
-    cast-t20
-    cast-t21
+    cast-t11
+    cast-t15
+    cast-t16
     new-series-requires
     mul-s
     element-set-from-s
     add-book
-    cast-t25
-    returns-4)
+    cast-t19
+    returns-2)
