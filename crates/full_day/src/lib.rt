@@ -1,6 +1,9 @@
 // A day of the full size, in loops that hold the book: bench/ takes the time of a trade's step and of an evening's.
 use book::state::Book;
 use book::state::Event;
+use series::event::Deal;
+use series::event::NewSeries;
+use series::event::Quote;
 use terms::Category;
 use terms::OptionType;
 use terms::bounds::BLOTTER;
@@ -20,38 +23,38 @@ fn listing(n: usize) -> Event
     requires { ⌜ n < seriesRoom ⌝ }
     ensures { λ r. ⌜ r ≡ rule.listing n ⌝ }
 {
-    Event::List {
+    Event::List(NewSeries {
         option: OptionType::Call,
         category: Category::American,
         strike: 100000,
         tick: 1,
-        last: (n % 2 * 999) as u64,
-    }
+        last_day: (n % 2 * 999) as u64,
+    })
 }
 
 fn trade(n: usize) -> Event
     requires { ⌜ n < blotterRoom ⌝ }
     ensures { λ r. ⌜ r ≡ rule.trade n ⌝ }
 {
-    Event::Trade {
+    Event::Trade(Deal {
         series: (n % 8) as u8,
         buyer: (n / 8) as u8,
         seller: (n / 8 + 32) as u8,
         quantity: (n + 1) as u64,
         price: (n + 5000) as u64,
-    }
+    })
 }
 
 fn mark(n: usize) -> Event
     requires { ⌜ n < seriesRoom ⌝ }
     ensures { λ r. ⌜ r ≡ rule.mark n ⌝ }
 {
-    Event::Mark {
+    Event::Mark(Quote {
         series: n as u8,
         option: 5000,
         future: 100000,
         tick_value: 12345,
-    }
+    })
 }
 
 fn event(n: usize) -> Event
