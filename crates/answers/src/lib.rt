@@ -72,11 +72,11 @@ pub fn is_session(event: Event) -> bool
     ensures { λ r. ⌜ r ≡ isSession event ⌝ }
 {
     match event {
-        Event::List { .. } => false,
-        Event::Trade { .. } => false,
-        Event::Exercise { .. } => false,
-        Event::Decline { .. } => false,
-        Event::Mark { .. } => false,
+        Event::List(_) => false,
+        Event::Trade(_) => false,
+        Event::Exercise(_) => false,
+        Event::Decline(_) => false,
+        Event::Mark(_) => false,
         Event::Intraday => true,
         Event::Evening => true,
     }

@@ -5,6 +5,7 @@ use decimal::Numeral;
 use rows::types::End;
 use rows::types::Refusal;
 use rows::types::Row;
+use series::event::NewSeries;
 ghost use mathlib.Core.Path.{_≡_};
 ghost use Rattle.rows.specs.Row.{listing, listRow};
 
@@ -17,13 +18,13 @@ fn listing(code: &[u8], tick: u64, last: u64) -> Row
         Read::Code { future: _, terms } => {
             let option = terms.option;
             let category = terms.category;
-            Row::Accepted(Event::List {
+            Row::Accepted(Event::List(NewSeries {
                 option,
                 category,
                 strike: terms.strike,
                 tick,
-                last,
-            })
+                last_day: last,
+            }))
         }
     }
 }

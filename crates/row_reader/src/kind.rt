@@ -4,6 +4,10 @@ use decimal::Numeral;
 use rows::types::ByteRead;
 use rows::types::Refusal;
 use rows::types::Row;
+use series::event::Deal;
+use series::event::Quote;
+use series::event::Request;
+use series::event::Waiver;
 ghost use mathlib.Core.Path.{_≡_};
 ghost use Rattle.rows.specs.Row.{atEnd, tradeRow, exerciseRow, declineRow, markRow, intradayRow, eveningRow};
 
@@ -59,13 +63,13 @@ pub fn trade(s: &[u8]) -> Row
     at_end(
         s,
         e,
-        Event::Trade {
+        Event::Trade(Deal {
             series,
             buyer,
             seller,
             quantity,
             price,
-        },
+        }),
     )
 }
 
@@ -97,11 +101,11 @@ pub fn exercise(s: &[u8]) -> Row
     at_end(
         s,
         c,
-        Event::Exercise {
+        Event::Exercise(Request {
             series,
             account,
             quantity,
-        },
+        }),
     )
 }
 
@@ -123,7 +127,7 @@ pub fn decline(s: &[u8]) -> Row
     else {
         return Row::Refused(Refusal::Row);
     };
-    at_end(s, b, Event::Decline { series, account })
+    at_end(s, b, Event::Decline(Waiver { series, account }))
 }
 
 // M,series,option,futures,W
@@ -161,12 +165,12 @@ pub fn mark(s: &[u8]) -> Row
     at_end(
         s,
         d,
-        Event::Mark {
+        Event::Mark(Quote {
             series,
             option,
             future,
             tick_value,
-        },
+        }),
     )
 }
 

@@ -1,4 +1,5 @@
 // Rows that are events on one series: they are carried out in the book where it stands.
+use book::state::Today;
 use buffers::put_answer;
 use buffers::up_to;
 use stream::types::Passed;
@@ -29,29 +30,40 @@ pub fn series_rows(input: &[u8], start: usize, out: &mut [u8], replay: Replay) -
         else {
             return up_to(book, row, at, intact, from);
         };
+        let today = Today {
+            day: book.day,
+            listed: book.listed,
+            trades: book.trades,
+        };
+        let n = apply::next_record(book.trades);
+        let standing = book.blotter[n];
         let mut s = book.series[series];
         let listing = s.listing;
-        let effect = effect::effect(
+        let mark = s.mark;
+        // one field of a struct is lent at a time: the arrays are lent from locals
+        let mut positions = s.positions;
+        let mut requests = s.requests;
+        let mut declined = s.declined;
+        let change = in_place::carry_out(
+            today,
             listing,
-            &s.positions,
-            book.day,
-            book.listed,
-            book.trades,
+            mark,
+            standing,
+            &mut positions,
+            &mut requests,
+            &mut declined,
             event,
         );
-        apply::move_positions(&mut s.positions, effect);
-        apply::set_request(&mut s.requests, effect);
-        apply::set_refusal(&mut s.declined, effect);
-        let mark = s.mark;
-        let marked = apply::mark(mark, effect);
+        let marked = change.mark;
+        s.positions = positions;
+        s.requests = requests;
+        s.declined = declined;
         s.mark = marked;
         book.series[series] = s;
-        let n = apply::next_record(book.trades);
-        let record = book.blotter[n];
-        let joined = apply::joined(record, effect);
-        book.blotter[n] = joined;
-        book.trades = apply::counted(book.trades, effect);
-        let answer = apply::answer(effect);
+        let entry = change.entry;
+        book.blotter[n] = entry;
+        book.trades = change.trades;
+        let answer = change.answer;
         row = std::num::wrapping_add_u64(row, 1);
         let waiting = put_answer(out, at, row, answer, intact);
         at = waiting.at;

@@ -10,7 +10,7 @@ use lib.ListN.{length, take, drop}
 use Rattle.choice.specs.Choice.{choose}
 use Rattle.choice.proofs.Chain.{hit, past}
 use Rattle.terms.specs.Bounds.{seriesRoom}
-use Rattle.book.specs.Verdicts.{seriesOf}
+use Rattle.book.specs.Effects.{seriesOf}
 use Rattle.book.specs.declared.state.Event.{Event}
 use Rattle.rows.specs.Cut.{cut, endFrom}
 use Rattle.rows.specs.Field.{onEnd}

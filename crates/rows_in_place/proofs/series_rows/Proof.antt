@@ -8,13 +8,12 @@ use mathlib.Core.Bool.{Bool}
 use mathlib.Core.List.{List}
 use lib.ListN.{length}
 use Rattle.terms.specs.Bounds.{blotterRoom}
-use Rattle.book.specs.Effects.{Fits}
 use Rattle.book.specs.Good.{Good}
 use Rattle.book.specs.declared.state.Book.{Book}
 use Rattle.book.specs.declared.state.Event.{Event}
 use Rattle.book.specs.declared.state.Step.{Step}
 use Rattle.book.proofs.Keeps.{stays-good}
-use Rattle.book.proofs.Effects.{next-record-within, effect-fits, step-stored}
+use Rattle.book.proofs.Effects.{next-record-within, step-stored}
 use Rattle.stream.specs.Parts.{FirstPassed}
 use Rattle.stream.specs.declared.types.Replay.{Replay}
 use Rattle.stream.proofs.Books.{book-accepted, series-line}
@@ -56,23 +55,12 @@ module _ (c : tie.After-known-told Inv-loop μ-loop) where
   row : Found input (top .loop .from) series-at event (c .before .series .given .0 .1 .1 .0)
   row = found _ _ (c .before .before .before .series-row .ensures) _ _ _ (c .before .series .given .1)
 
--- where the effect of its event is known
-module _ (f : tie.After-effect Inv-loop μ-loop) where
-  abbrev row-of : tie.After-known-told Inv-loop μ-loop
-  row-of = f .before .before .before .before .before
+-- where its event was carried out, from the record that it may fill
+abbrev record-at : tie.After-carry-out Inv-loop μ-loop → tie.After-next-record Inv-loop μ-loop
+record-at c = c .before .before .before .before .before .before .before .before .before .before .before
 
-  fits : Fits (f .effect .result)
-  fits = effect-fits (top row-of .loop .book) (event row-of) _ (row row-of .series) _ (f .effect .ensures)
-
-record-of : (c : tie.After-next-record Inv-loop μ-loop) → c .next-record .result < blotterRoom
-record-of c = next-record-within _ (c .next-record .ensures)
-
--- where the effect was known, from the answer on
-abbrev effected : tie.After-answer Inv-loop μ-loop → tie.After-effect Inv-loop μ-loop
-effected c = c .before .before .before .before .before .before .before .before .before .before .before .before .before
-
-abbrev answer-of : tie.After-slice-known2 Inv-loop μ-loop → tie.After-answer Inv-loop μ-loop
-answer-of c = c .before .before .before .before .before
+record-within : (c : tie.After-next-record Inv-loop μ-loop) → c .next-record .result < blotterRoom
+record-within c = rw (c .next-record .ensures) (next-record-within _)
 
 -- ---- the loop begins, and ends at the first other row
 loop-holds : tie.Need-loop-holds Inv-loop μ-loop
@@ -98,101 +86,75 @@ same-length c = c .before .before .before .before .loop .inv .0
 returns : tie.Need-returns Inv-loop μ-loop
 returns c = rw (c .up-to .ensures) (c .before .before .before .before .loop .inv .1)
 
--- ---- what the event does to its series
-mul-s : tie.Need-mul-s Inv-loop μ-loop
-mul-s c = omega (arith, row c .room)
-
-element-copy-out-s : tie.Need-element-copy-out-s Inv-loop μ-loop
-element-copy-out-s c = row c .room
-
-effect-requires : tie.Need-effect-requires Inv-loop μ-loop
-effect-requires c κs =
-    let r = c .before .before .before .before in
-    (good r .series (series-at r) (row r .room) .positions .bounded, rw (← row r .series) (good r .tick (series-at r)))
-
-move-positions-requires : tie.Need-move-positions-requires Inv-loop μ-loop
-move-positions-requires c κs =
-    let r = row-of (c .before) in
-    (fits (c .before), good r .series (series-at r) (row r .room) .positions .bounded)
-
-set-request-requires : tie.Need-set-request-requires Inv-loop μ-loop
-set-request-requires c κs = fits (c .before .before .before)
-
-set-refusal-requires : tie.Need-set-refusal-requires Inv-loop μ-loop
-set-refusal-requires c κs = fits (c .before .before .before .before .before)
-
-mark-requires : tie.Need-mark-requires Inv-loop μ-loop
-mark-requires c κs = search needs
-
-mul-t25 : tie.Need-mul-t25 Inv-loop μ-loop
-mul-t25 c = omega (arith, row (row-of (c .before .before .before .before .before .before .before .before)) .room)
-
-element-set-from-book : tie.Need-element-set-from-book Inv-loop μ-loop
-element-set-from-book c = row (row-of (c .before .before .before .before .before .before .before .before)) .room
-
--- ---- the blotter
+-- ---- the event is carried out
 next-record-requires : tie.Need-next-record-requires Inv-loop μ-loop
 next-record-requires c κs = search needs
 
-mul-record : tie.Need-mul-record Inv-loop μ-loop
-mul-record c = omega (arith, record-of c)
+mul-standing : tie.Need-mul-standing Inv-loop μ-loop
+mul-standing c = omega (arith, record-within c)
 
-element-copy-out-record : tie.Need-element-copy-out-record Inv-loop μ-loop
-element-copy-out-record c = record-of c
+element-copy-out-standing : tie.Need-element-copy-out-standing Inv-loop μ-loop
+element-copy-out-standing c = record-within c
 
-joined-requires : tie.Need-joined-requires Inv-loop μ-loop
-joined-requires c κs = search needs
+mul-s : tie.Need-mul-s Inv-loop μ-loop
+mul-s c = omega (arith, row (c .before .before) .room)
 
-mul-joined : tie.Need-mul-joined Inv-loop μ-loop
-mul-joined c = omega (arith, record-of (c .before .before))
+element-copy-out-s : tie.Need-element-copy-out-s Inv-loop μ-loop
+element-copy-out-s c = row (c .before .before) .room
 
-element-set-from-joined : tie.Need-element-set-from-joined Inv-loop μ-loop
-element-set-from-joined c = record-of (c .before .before)
+carry-out-requires : tie.Need-carry-out-requires Inv-loop μ-loop
+carry-out-requires c κs =
+    let o = c .before .before .before .before .before .before .before .before .before .before .before in
+    record {
+      bounded = good o .series (series-at o) (row o .room) .positions .bounded;
+      tick = rw (← row o .series) (good o .tick (series-at o));
+      trades = good o .trades;
+    }
 
-counted-requires : tie.Need-counted-requires Inv-loop μ-loop
-counted-requires c κs = good (row-of (c .before .before .before .before .before .before .before .before .before .before .before)) .trades
+-- ---- and stored
+mul-s-2 : tie.Need-mul-s-2 Inv-loop μ-loop
+mul-s-2 c = omega (arith, row (record-at (c .before) .before) .room)
+
+element-set-from-s : tie.Need-element-set-from-s Inv-loop μ-loop
+element-set-from-s c = row (record-at (c .before) .before) .room
+
+mul-entry : tie.Need-mul-entry Inv-loop μ-loop
+mul-entry c = omega (arith, record-within (record-at (c .before .before)))
+
+element-set-from-entry : tie.Need-element-set-from-entry Inv-loop μ-loop
+element-set-from-entry c = record-within (record-at (c .before .before))
 
 -- ---- the answer, and the next turn
-answer-requires : tie.Need-answer-requires Inv-loop μ-loop
-answer-requires c κs = search needs
-
 wrapping-add-u64-requires : tie.Need-wrapping-add-u64-requires Inv-loop μ-loop
 wrapping-add-u64-requires c κs = search needs
 
 put-answer-requires : tie.Need-put-answer-requires Inv-loop μ-loop
 put-answer-requires c κs =
-    let r = top (row-of (effected (c .before .before))) .loop .inv .1 .ready in
+    let r = top (record-at (c .before .before .before .before) .before) .loop .inv .1 .ready in
     (r .waiting, r .room)
 
 loop-less : tie.Need-loop-less Inv-loop μ-loop
 loop-less c =
-    let r = row (row-of (effected (answer-of c))) in
+    let r = row (record-at (c .before .before .before .before .before .before .before) .before) in
     omega (arith, r .later, r .within)
 
 loop-again : tie.Need-loop-again Inv-loop μ-loop
 loop-again c =
-    let a = answer-of c in
-    let f = effected a in
-    let o = row-of f in
+    let d = c .before .before .before .before .before .before .before in
+    let n = record-at d in
+    let o = n .before in
     let l = top o .loop in
     let p = l .inv .1 in
     let r = row o in
-    let s = step-stored (l .book) (event o) _ (r .series) _ (f .effect .ensures) _ (a .before .before .before .before .next-record .ensures) (r .room)
-    (a .answer .ensures)
-    (a .before .before .before .before .before .before .before .before .before .before .before .move-positions .ensures)
-    (a .before .before .before .before .before .before .before .before .before .set-request .ensures)
-    (a .before .before .before .before .before .before .before .set-refusal .ensures)
-    (a .before .before .before .before .before .mark2 .ensures)
-    (a .before .before .joined .ensures)
-    (a .before .counted .ensures) in
-    let n = c .before .before .before .before .wrapping-add-u64 in
+    let s = step-stored (l .book) (event o) _ _ (r .series) (r .room) (n .next-record .ensures) (d .carry-out .ensures) in
+    let m = c .before .before .before .before .wrapping-add-u64 in
     let w = c .before .before .put-answer in
     let k : length (w .last .0) ≡ length (l .out) = w .kept .0 in (
       omega (arith, k, l .inv .0),
       record {
         answered = up-to-next (rw (r .first) at (p .answered))
-            (lines-answered (ap (λ (x : Step). x .book) s ∙ book-accepted (l .book) (r .says)) (n .ensures)
-            (rw (← series-line (n .result) (l .book) (good o) (event o) (rw (← r .series) (r .room)) (ap (λ (x : Step). x .answer) s) (r .says)) (w .ensures)));
+            (lines-answered (ap (λ (x : Step). x .book) s ∙ book-accepted (l .book) (r .says)) (m .ensures)
+            (rw (← series-line (m .result) (l .book) (good o) (event o) (rw (← r .series) (r .room)) (ap (λ (x : Step). x .answer) s) (r .says)) (w .ensures)));
         later = omega (arith, r .later, p .later);
         within = r .within;
         ready = record { good = stays-good (l .book) (event o) _ (good o) s; waiting = w .ensures .room; room = omega (arith, k, p .ready .room) };
@@ -213,23 +175,16 @@ series-rows-spec =
     up-to-requires
     same-length
     returns
+    next-record-requires
+    mul-standing
+    element-copy-out-standing
     mul-s
     element-copy-out-s
-    effect-requires
-    move-positions-requires
-    set-request-requires
-    set-refusal-requires
-    mark-requires
-    mul-t25
-    element-set-from-book
-    next-record-requires
-    mul-record
-    element-copy-out-record
-    joined-requires
-    mul-joined
-    element-set-from-joined
-    counted-requires
-    answer-requires
+    carry-out-requires
+    mul-s-2
+    element-set-from-s
+    mul-entry
+    element-set-from-entry
     wrapping-add-u64-requires
     put-answer-requires
     loop-less
