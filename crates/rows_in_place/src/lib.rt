@@ -30,6 +30,9 @@ pub fn series_rows(input: &[u8], start: usize, out: &mut [u8], replay: Replay) -
         else {
             return up_to(book, row, at, intact, from);
         };
+        let mut s = book.series[series];
+        let listing = s.listing;
+        let mark = s.mark;
         let today = Today {
             day: book.day,
             listed: book.listed,
@@ -37,27 +40,12 @@ pub fn series_rows(input: &[u8], start: usize, out: &mut [u8], replay: Replay) -
         };
         let n = apply::next_record(book.trades);
         let standing = book.blotter[n];
-        let mut s = book.series[series];
-        let listing = s.listing;
-        let mark = s.mark;
-        // one field of a struct is lent at a time: the arrays are lent from locals
-        let mut positions = s.positions;
-        let mut requests = s.requests;
-        let mut declined = s.declined;
-        let change = in_place::carry_out(
-            today,
-            listing,
-            mark,
-            standing,
-            &mut positions,
-            &mut requests,
-            &mut declined,
-            event,
-        );
+        let change = in_place::change(today, listing, mark, standing, &s.positions, event);
+        let effect = change.effect;
+        apply::move_positions(&mut s.positions, effect);
+        apply::set_request(&mut s.requests, effect);
+        apply::set_decline(&mut s.declined, effect);
         let marked = change.mark;
-        s.positions = positions;
-        s.requests = requests;
-        s.declined = declined;
         s.mark = marked;
         book.series[series] = s;
         let entry = change.entry;

@@ -56,7 +56,7 @@ element-copy-out-standing : tie.Need-element-copy-out-standing
 element-copy-out-standing c = record-of c
 
 change-requires : tie.Need-change-requires
-change-requires c κs = 
+change-requires c κs =
     let s = c .before .before .before .before .before .before .before .before .before in
     let n = c .before .before .before .before .before .before .before .before .series-of in
     record {
@@ -87,7 +87,7 @@ element-set-from-entry : tie.Need-element-set-from-entry
 element-set-from-entry c = record-of (c .before .before .before .before .before .before .before .before .before .before .before .before)
 
 returns-2 : tie.Need-returns-2
-returns-2 c = 
+returns-2 c =
     let h = c .before .before .before .before .before .before .before .before in
     let s = start h in
     stepped s

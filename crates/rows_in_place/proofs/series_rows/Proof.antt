@@ -7,13 +7,16 @@ use native.Mathlib.Omega.{arith}
 use mathlib.Core.Bool.{Bool}
 use mathlib.Core.List.{List}
 use lib.ListN.{length}
-use Rattle.terms.specs.Bounds.{blotterRoom}
+use Rattle.integer.specs.Bounds.{Bounded}
+use Rattle.terms.specs.Bounds.{blotterRoom, maxPosition}
+use Rattle.book.specs.Effects.{Fits}
 use Rattle.book.specs.Good.{Good}
+use Rattle.book.specs.State.{seriesAt}
 use Rattle.book.specs.declared.state.Book.{Book}
 use Rattle.book.specs.declared.state.Event.{Event}
 use Rattle.book.specs.declared.state.Step.{Step}
 use Rattle.book.proofs.Keeps.{stays-good}
-use Rattle.book.proofs.Effects.{next-record-within, step-stored}
+use Rattle.book.proofs.Effects.{next-record-within, change-fits, step-stored}
 use Rattle.stream.specs.Parts.{FirstPassed}
 use Rattle.stream.specs.declared.types.Replay.{Replay}
 use Rattle.stream.proofs.Books.{book-accepted, series-line}
@@ -55,9 +58,15 @@ module _ (c : tie.After-known-told Inv-loop μ-loop) where
   row : Found input (top .loop .from) series-at event (c .before .series .given .0 .1 .1 .0)
   row = found _ _ (c .before .before .before .series-row .ensures) _ _ _ (c .before .series .given .1)
 
--- where its event was carried out, from the record that it may fill
-abbrev record-at : tie.After-carry-out Inv-loop μ-loop → tie.After-next-record Inv-loop μ-loop
-record-at c = c .before .before .before .before .before .before .before .before .before .before .before
+-- where the change that its event makes is known
+abbrev row-at : tie.After-change Inv-loop μ-loop → tie.After-known-told Inv-loop μ-loop
+row-at c = c .before .before .before .before .before .before .before .before
+
+bounded : (c : tie.After-change Inv-loop μ-loop) → Bounded maxPosition (seriesAt (top (row-at c) .loop .book) (series-at (row-at c)) .positions)
+bounded c = good (row-at c) .series (series-at (row-at c)) (row (row-at c) .room) .positions .bounded
+
+fits : (c : tie.After-change Inv-loop μ-loop) → Fits (c .change .result .effect)
+fits c = change-fits (c .change .ensures) (bounded c)
 
 record-within : (c : tie.After-next-record Inv-loop μ-loop) → c .next-record .result < blotterRoom
 record-within c = rw (c .next-record .ensures) (next-record-within _)
@@ -87,6 +96,12 @@ returns : tie.Need-returns Inv-loop μ-loop
 returns c = rw (c .up-to .ensures) (c .before .before .before .before .loop .inv .1)
 
 -- ---- the event is carried out
+mul-s : tie.Need-mul-s Inv-loop μ-loop
+mul-s c = omega (arith, row c .room)
+
+element-copy-out-s : tie.Need-element-copy-out-s Inv-loop μ-loop
+element-copy-out-s c = row c .room
+
 next-record-requires : tie.Need-next-record-requires Inv-loop μ-loop
 next-record-requires c κs = search needs
 
@@ -96,33 +111,36 @@ mul-standing c = omega (arith, record-within c)
 element-copy-out-standing : tie.Need-element-copy-out-standing Inv-loop μ-loop
 element-copy-out-standing c = record-within c
 
-mul-s : tie.Need-mul-s Inv-loop μ-loop
-mul-s c = omega (arith, row (c .before .before) .room)
-
-element-copy-out-s : tie.Need-element-copy-out-s Inv-loop μ-loop
-element-copy-out-s c = row (c .before .before) .room
-
-carry-out-requires : tie.Need-carry-out-requires Inv-loop μ-loop
-carry-out-requires c κs =
-    let o = c .before .before .before .before .before .before .before .before .before .before .before in
+change-requires : tie.Need-change-requires Inv-loop μ-loop
+change-requires c κs =
+    let o = c .before .before .before .before .before .before .before in
     record {
       bounded = good o .series (series-at o) (row o .room) .positions .bounded;
       tick = rw (← row o .series) (good o .tick (series-at o));
       trades = good o .trades;
     }
 
--- ---- and stored
-mul-s-2 : tie.Need-mul-s-2 Inv-loop μ-loop
-mul-s-2 c = omega (arith, row (record-at (c .before) .before) .room)
+move-positions-requires : tie.Need-move-positions-requires Inv-loop μ-loop
+move-positions-requires c κs = (fits (c .before), bounded (c .before))
 
-element-set-from-s : tie.Need-element-set-from-s Inv-loop μ-loop
-element-set-from-s c = row (record-at (c .before) .before) .room
+set-request-requires : tie.Need-set-request-requires Inv-loop μ-loop
+set-request-requires c κs = fits (c .before .before .before)
+
+set-decline-requires : tie.Need-set-decline-requires Inv-loop μ-loop
+set-decline-requires c κs = fits (c .before .before .before .before .before)
+
+-- ---- and stored
+mul-t27 : tie.Need-mul-t27 Inv-loop μ-loop
+mul-t27 c = omega (arith, row (row-at (c .before .before .before .before .before .before .before)) .room)
+
+element-set-from-book : tie.Need-element-set-from-book Inv-loop μ-loop
+element-set-from-book c = row (row-at (c .before .before .before .before .before .before .before)) .room
 
 mul-entry : tie.Need-mul-entry Inv-loop μ-loop
-mul-entry c = omega (arith, record-within (record-at (c .before .before)))
+mul-entry c = omega (arith, record-within (c .before .before .before .before .before .before .before .before .before .before .before .before))
 
 element-set-from-entry : tie.Need-element-set-from-entry Inv-loop μ-loop
-element-set-from-entry c = record-within (record-at (c .before .before))
+element-set-from-entry c = record-within (c .before .before .before .before .before .before .before .before .before .before .before .before)
 
 -- ---- the answer, and the next turn
 wrapping-add-u64-requires : tie.Need-wrapping-add-u64-requires Inv-loop μ-loop
@@ -130,23 +148,24 @@ wrapping-add-u64-requires c κs = search needs
 
 put-answer-requires : tie.Need-put-answer-requires Inv-loop μ-loop
 put-answer-requires c κs =
-    let r = top (record-at (c .before .before .before .before) .before) .loop .inv .1 .ready in
+    let r = top (row-at (c .before .before .before .before .before .before .before .before .before .before)) .loop .inv .1 .ready in
     (r .waiting, r .room)
 
 loop-less : tie.Need-loop-less Inv-loop μ-loop
 loop-less c =
-    let r = row (record-at (c .before .before .before .before .before .before .before) .before) in
+    let r = row (row-at (c .before .before .before .before .before .before .before .before .before .before .before .before .before)) in
     omega (arith, r .later, r .within)
 
 loop-again : tie.Need-loop-again Inv-loop μ-loop
 loop-again c =
-    let d = c .before .before .before .before .before .before .before in
-    let n = record-at d in
-    let o = n .before in
+    let h = c .before .before .before .before .before .before .before .before .before .before .before .before .before in
+    let o = row-at h in
     let l = top o .loop in
     let p = l .inv .1 in
     let r = row o in
-    let s = step-stored (l .book) (event o) _ _ (r .series) (r .room) (n .next-record .ensures) (d .carry-out .ensures) in
+    let s =
+    step-stored (l .book) (event o) _ _ (r .series) (r .room) (h .before .before .before .before .next-record .ensures) (h .change .ensures)
+    (c .before .before .before .before .before .before .before .before .before .before .before .move-positions .ensures) (c .before .before .before .before .before .before .before .before .before .set-request .ensures) (c .before .before .before .before .before .before .before .set-decline .ensures) in
     let m = c .before .before .before .before .wrapping-add-u64 in
     let w = c .before .before .put-answer in
     let k : length (w .last .0) ≡ length (l .out) = w .kept .0 in (
@@ -175,14 +194,17 @@ series-rows-spec =
     up-to-requires
     same-length
     returns
+    mul-s
+    element-copy-out-s
     next-record-requires
     mul-standing
     element-copy-out-standing
-    mul-s
-    element-copy-out-s
-    carry-out-requires
-    mul-s-2
-    element-set-from-s
+    change-requires
+    move-positions-requires
+    set-request-requires
+    set-decline-requires
+    mul-t27
+    element-set-from-book
     mul-entry
     element-set-from-entry
     wrapping-add-u64-requires

@@ -67,7 +67,7 @@ rem-if10 : tie.Need-rem-if10
 rem-if10 c = search (needs, c .before .before .before .before .before .before .before .before .before .before .before .before .before .before .before .before .before .before .before .before .before .pre (c .before .before .before .before .before .before .before .before .before .before .before .before .before .before .before .before .if2 .left))
 
 returns-10 : tie.Need-returns-10
-returns-10 c = 
+returns-10 c =
     past _ (le-ltb _ _ (c .before .before .before .before .before .before .before .before .before .before .before .before .before .before .before .before .before .before .before .before .if1 .left))
     (past _ (lt-leb _ _ (c .before .before .before .before .before .before .before .before .before .before .before .before .before .before .before .before .before .if2 .left))
     (past _ (le-ltb _ _ (c .before .before .before .before .before .before .before .before .before .before .before .before .before .before .if3 .left))
@@ -196,7 +196,7 @@ passes-limit-requires-2 : tie.Need-passes-limit-requires-2
 passes-limit-requires-2 c κs = search needs
 
 returns-12 : tie.Need-returns-12
-returns-12 c = 
+returns-12 c =
     all-fail (at-sale (c .before .before .before))
     (past _ (sym (buyer-passes (c .before .before .before .before .before)) ∙ c .before .before .before .before .if11 .left)
     (hit _ (sym (seller-passes (c .before)) ∙ c .if12 .taken) refl))
