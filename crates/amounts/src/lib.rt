@@ -2,12 +2,12 @@
 use exercise::types::PLACES;
 use terms::bounds::ACCOUNTS;
 ghost use mathlib.Core.Path.{_≡_};
-ghost use lib.IntN.{pos, _+ℤ_, _-ℤ_};
+ghost use lib.IntN.{pos, _+ℤ_, _-ℤ_, _*ℤ_};
 ghost use Prim.Native.Nat.{_≤_};
 ghost use Rattle.integer.specs.Bounds.{Bounded};
 ghost use Rattle.integer.specs.Table.{at, table};
 ghost use Rattle.terms.specs.Bounds.{accounts, maxPosition};
-ghost use Rattle.margin.specs.Margin.{revalued};
+ghost use Rattle.margin.specs.Bounds.{maxValue, mostInADay, maxCash};
 
 // The money of each account, and n × V(p) − B × V(b) more.
 pub fn revalue(
@@ -17,8 +17,8 @@ pub fn revalue(
     now: u64,
     before: u64,
 ) -> [i64; ACCOUNTS]
-    requires { ⌜ (Bounded 1000000000000000000 money) × (Bounded maxPosition positions) × (Bounded maxPosition opening) × (now ≤ 2000000000) × (before ≤ 2000000000) ⌝ }
-    ensures { λ r. ⌜ r ≡ table accounts (λ a. at money a +ℤ revalued (at positions a) (pos now) (at opening a) (pos before)) ⌝ }
+    requires { ⌜ (Bounded mostInADay money) × (Bounded maxPosition positions) × (Bounded maxPosition opening) × (now ≤ maxValue) × (before ≤ maxValue) ⌝ }
+    ensures { λ r. ⌜ r ≡ table accounts (λ a. at money a +ℤ (at positions a *ℤ pos now -ℤ at opening a *ℤ pos before)) ⌝ }
 {
     let mut out = [0i64; ACCOUNTS];
     let mut a: usize = 0;
@@ -33,8 +33,8 @@ pub fn revalue(
 
 // The difference of two amounts for each account.
 pub fn less(money: [i64; ACCOUNTS], paid: [i64; ACCOUNTS]) -> [i64; ACCOUNTS]
-    requires { ⌜ Bounded 4000000000000000000 money ⌝ }
-    requires { ⌜ Bounded 4000000000000000000 paid ⌝ }
+    requires { ⌜ Bounded maxCash money ⌝ }
+    requires { ⌜ Bounded maxCash paid ⌝ }
     ensures { λ r. ⌜ r ≡ table accounts (λ a. at money a -ℤ at paid a) ⌝ }
 {
     let mut out = [0i64; ACCOUNTS];
@@ -48,8 +48,8 @@ pub fn less(money: [i64; ACCOUNTS], paid: [i64; ACCOUNTS]) -> [i64; ACCOUNTS]
 
 // The cash of each account once its money is paid.
 pub fn pay(cash: [i64; ACCOUNTS], money: [i64; ACCOUNTS]) -> [i64; ACCOUNTS]
-    requires { ⌜ Bounded 4000000000000000000 cash ⌝ }
-    requires { ⌜ Bounded 4000000000000000000 money ⌝ }
+    requires { ⌜ Bounded maxCash cash ⌝ }
+    requires { ⌜ Bounded maxCash money ⌝ }
     ensures { λ r. ⌜ r ≡ table accounts (λ a. at cash a +ℤ at money a) ⌝ }
 {
     let mut out = [0i64; ACCOUNTS];

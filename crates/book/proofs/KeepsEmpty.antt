@@ -5,10 +5,11 @@ use native.Mathlib.Omega.{arith}
 use lib.ListN.{getD-replicate}
 use Rattle.integer.proofs.Bounds.{within-pos, bounded-zeros}
 use Rattle.integer.proofs.Sum.{at-zeros, sum-zeros}
+use Rattle.margin.specs.Bounds.{mostInADay}
 use Rattle.terms.specs.Bounds.{accounts, seriesRoom}
 use Rattle.series.specs.Series.{newSeries}
 use Rattle.series.proofs.Keeps.{good-new}
-use Rattle.book.specs.Good.{Good, mostInADay}
+use Rattle.book.specs.Good.{Good}
 use Rattle.book.specs.State.{emptyBook, seriesAt, noListing, noSeries}
 
 blank : (i : ℕ) → i < seriesRoom → seriesAt emptyBook i ≡ newSeries noListing

@@ -13,13 +13,14 @@ use Rattle.integer.specs.Table.{at, table}
 use Rattle.integer.specs.Sum.{sumTo}
 use Rattle.integer.proofs.Sum.{at-zeros, sum-zeros, sum-add, sum-table}
 use Rattle.integer.proofs.Table.{length-table, getD-table}
+use Rattle.margin.specs.Bounds.{mostInADay}
 use Rattle.terms.specs.Bounds.{accounts, seriesRoom}
 use Rattle.series.specs.Changes.{unmarked, settled}
 use Rattle.series.specs.Good.{GoodSeries}
 use Rattle.series.specs.Series.{newSeries}
 use Rattle.series.specs.declared.state.Series.{Series}
 use Rattle.series.proofs.Keeps.{good-unmarked, good-settled, good-later}
-use Rattle.book.specs.Good.{Good, Idle, mostInADay}
+use Rattle.book.specs.Good.{Good, Idle}
 use Rattle.book.specs.Sessions.{changed, intradayMoney, eveningMoney, paidInto, afterIntraday, afterEvening}
 use Rattle.book.specs.State.{seriesAt, tradeAt, live, cash, noListing, noSeries}
 use Rattle.book.specs.declared.state.Book.{Book}

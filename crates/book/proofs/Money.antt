@@ -11,6 +11,7 @@ use Rattle.integer.proofs.Ring.{split, ring, ⊖-eq}
 use Rattle.integer.specs.Table.{at}
 use Rattle.integer.specs.Sum.{sumTo}
 use Rattle.integer.proofs.Sum.{sum-0, sum-ext, sum-sub, sum-mulr, sum-swap}
+use Rattle.margin.specs.Bounds.{mostInADay, maxCash}
 use Rattle.margin.specs.Margin.{worth, costIn}
 use Rattle.margin.proofs.Cost.{costIn-balances, traded-small}
 use Rattle.terms.specs.Bounds.{accounts, seriesRoom, maxPosition}
@@ -19,7 +20,7 @@ use Rattle.series.specs.Good.{GoodSeries}
 use Rattle.series.specs.Series.{positionOf}
 use Rattle.series.specs.declared.state.Series.{Series}
 use Rattle.series.proofs.Keeps.{closing-within, closing-balances}
-use Rattle.book.specs.Good.{Good, mostInADay}
+use Rattle.book.specs.Good.{Good}
 use Rattle.book.specs.Sessions.{tradedIn, revaluedIn, marginIn, overLive, intradayMoney, eveningMargin, eveningMoney}
 use Rattle.book.specs.State.{seriesAt, tradeAt, live, cash}
 use Rattle.book.specs.declared.state.Book.{Book}
@@ -110,7 +111,7 @@ module _ (b : Book) (g : Good b) where
   cash-within a =
       within-le (rw (-ℤ-+ℤ-cancel (cash b a) (at (b .«intraday_paid») a)) at (within-add (g .settled a) (g .paid .each a))) (omega arith)
 
-  pub cash-bounded : Bounded 4000000000000000000 (b .cash)
+  pub cash-bounded : Bounded maxCash (b .cash)
   cash-bounded = record { each = λ a. within-le (cash-within a) (omega (arith, g .day)) }
 
   -- after the evening, cash is what the days' margins came to

@@ -15,6 +15,7 @@ ghost use lib.ListN.{getD};
 ghost use Rattle.choice.specs.Choice.{choose};
 ghost use Rattle.integer.specs.Bounds.{Bounded};
 ghost use Rattle.integer.specs.Table.{at, table};
+ghost use Rattle.margin.specs.Bounds.{mostInADay};
 ghost use Rattle.terms.specs.Bounds.{accounts, seriesRoom, maxPosition};
 ghost use Rattle.series.specs.Good.{GoodSeries};
 ghost use Rattle.series.specs.Series.{expired, positionOf};
@@ -39,7 +40,7 @@ fn coefficients(book: Book) -> [u32; SERIES]
 
 // The money, and what a live series' positions gain more, where `next` is the series after the session.
 fn revalue_series(money: [i64; ACCOUNTS], s: Series, next: Series, day: u32) -> [i64; ACCOUNTS]
-    requires { ⌜ (Bounded 1000000000000000000 money) × (GoodSeries day s) × (Bounded maxPosition (next .positions)) ⌝ }
+    requires { ⌜ (Bounded mostInADay money) × (GoodSeries day s) × (Bounded maxPosition (next .positions)) ⌝ }
     ensures { λ r. ⌜ r ≡ choose (not (expired s day)) (table accounts (λ a. at money a +ℤ revaluedIn s a (positionOf next a))) money ⌝ }
 {
     if s.listing.last_day < day {

@@ -11,6 +11,7 @@ use Rattle.integer.proofs.Bounds.{within-pos, bounded-at}
 use Rattle.integer.proofs.Machine.{Reads, same, local, fits, more, fewer, moved-is}
 use Rattle.integer.specs.Table.{at}
 use Rattle.integer.proofs.Table.{Filled, filled-ext, filled-all}
+use Rattle.margin.specs.Bounds.{maxDue, maxTraded}
 use Rattle.margin.specs.Margin.{tradeOf, tradedValue, TradeWithin}
 use Rattle.margin.specs.declared.trade.Trade.{Trade}
 use Rattle.margin.proofs.Cost.{due, due-small, paid-over, traded-none, traded-next, traded-small}
@@ -34,7 +35,7 @@ module _ (c : tie.In-loop Inv-loop μ-loop) where
   within : TradeWithin trade
   within = c .before .before .pre .1 .each (c .before .loop .k) (c .loop-test .taken)
 
-  bounded : Bounded 512000000000000 (c .before .loop .out)
+  bounded : Bounded maxTraded (c .before .loop .out)
   bounded =
       bounded-at (c .before .loop .out) (c .before .loop .inv .1 .len)
       (λ a lt. rw (c .before .loop .inv .1 .done a lt)
@@ -46,7 +47,7 @@ module _ (c : tie.After-amount Inv-loop μ-loop) where
   abbrev turn : tie.In-loop Inv-loop μ-loop
   turn = c .before .before .before .before .before
 
-  abbrev owed : Reads 2000000000000 (pos (due (coefficient turn) (trade turn)))
+  abbrev owed : Reads maxDue (pos (due (coefficient turn) (trade turn)))
   owed =
       local w64
       (same (c .amount .result) (c .amount .ensures) (within-pos (due-small (coefficient turn) (trade turn) (turn .before .before .pre .2 .each _) (within turn))))

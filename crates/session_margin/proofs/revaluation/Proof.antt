@@ -13,6 +13,7 @@ use Rattle.integer.proofs.Bounds.{bounded-at, within-le}
 use Rattle.integer.specs.Table.{at, table}
 use Rattle.integer.proofs.Table.{length-table, getD-table, table-ext, Filled, filled-ext, filled-all}
 use Rattle.series.specs.Series.{expired, positionOf}
+use Rattle.margin.specs.Bounds.{mostInADay}
 use Rattle.terms.specs.Bounds.{accounts}
 use Rattle.book.specs.Sessions.{revaluedIn}
 use Rattle.book.specs.State.{noSeries, seriesAt}
@@ -38,7 +39,7 @@ added true money f x r h e =
 added false money f x r h e =
     record { len = ap length e ∙ h .len; done = λ a lt. ap (λ (l : List ℤ). at l a) e ∙ h .done a lt ∙ sym (+ℤ-idr (f a)) }
 
-bounded : (c : tie.In-loop Inv-loop μ-loop) → Bounded 1000000000000000000 (c .before .loop .money)
+bounded : (c : tie.In-loop Inv-loop μ-loop) → Bounded mostInADay (c .before .loop .money)
 bounded c =
     bounded-at (c .before .loop .money) (c .before .loop .inv .1 .len)
     (λ a lt. rw (c .before .loop .inv .1 .done a lt)

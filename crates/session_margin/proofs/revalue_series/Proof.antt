@@ -3,7 +3,7 @@ use mathlib.Core.Path.{refl, ap}
 use mathlib.Core.Bool.{not}
 use borrow.Author.Tests.{lt-ltb, le-ltb}
 use Rattle.choice.proofs.Chain.{hit, past}
-use Rattle.value.proofs.Bounds.{option-value-bound}
+use Rattle.margin.proofs.Bounds.{option-value-bound}
 use borrow.Author.Needs.{needs}
 use Rattle.session_margin.proofs.revalue_series.Statement.{statement}
 use Rattle.session_margin.proofs.revalue_series.Tie as tie

@@ -1,12 +1,14 @@
 -- `settling::expiry::grown` meets its contract: the loop fills the sums place by place.
 use borrow.Author.Needs.{needs}
-use Prim.Native.Nat.{_-_, _≤_}
+use Prim.Native.Nat.{_+_, _-_, _≤_}
 use native.Mathlib.Omega.{arith}
 use lib.IntN.{ℤ, pos, _+ℤ_}
 use mir.Syntax.{w32}
 use Rattle.integer.proofs.Machine.{Reads, param, plus, local, fits}
 use Rattle.integer.specs.Table.{at}
 use Rattle.integer.proofs.Table.{Filled, filled-start, filled-next, filled-all}
+use Rattle.margin.specs.Bounds.{maxFutures}
+use Rattle.terms.specs.Bounds.{maxPosition}
 use Rattle.settling.proofs.expiry.grown.Statement.{statement}
 use Rattle.settling.proofs.expiry.grown.Tie as tie
 
@@ -17,7 +19,7 @@ abbrev μ-loop : tie.MeasureT-loop
 μ-loop futures arisen out₀ place₀ out place = 64 - place
 
 module _ (c : tie.In-loop Inv-loop μ-loop) where
-  abbrev result : Reads 100100000 (at (c .before .before .args .t1) (c .before .loop .place) +ℤ at (c .before .before .args .t2) (c .before .loop .place))
+  abbrev result : Reads (maxFutures + maxPosition) (at (c .before .before .args .t1) (c .before .loop .place) +ℤ at (c .before .before .args .t2) (c .before .loop .place))
   result =
       plus (param w32 (c .before .before .pre .0 .each (c .before .loop .place)) tt)
       (param w32 (c .before .before .pre .1 .each (c .before .loop .place)) tt)
