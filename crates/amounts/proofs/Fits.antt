@@ -1,25 +1,18 @@
--- What the code's sums, differences and products ask: each fits, of whichever accounts, positions and prices within the bounds it is.
--- Which they are is what the contracts say.
+-- What the code's products and differences ask: each fits, of whichever positions, values and costs within the bounds it is. Which they
+-- are is what the contracts say.
+use mathlib.Core.Path.{_≡_}
 use Prim.Native.Nat.{ℕ, _+_, _≤_}
-use lib.IntN.{ℤ, pos, _+ℤ_, _-ℤ_, _*ℤ_}
+use lib.IntN.{ℤ, pos, _-ℤ_, _*ℤ_}
 use mir.Syntax.{w32, w64}
 use mir.Val.{SFits, toZ, ofZ}
 use Rattle.integer.specs.Bounds.{Within}
-use Rattle.integer.proofs.Machine.{Reads, param, nat, plus, minus, times, local, fits}
-use Rattle.margin.specs.Bounds.{maxValue, maxWorth, maxGain, mostInADay, maxCash}
+use Rattle.integer.proofs.Machine.{Reads, param, same, nat, minus, times, local, fits}
+use Rattle.margin.specs.Bounds.{maxValue, maxWorth, maxGain, maxTraded}
 use Rattle.terms.specs.Bounds.{maxPosition}
 
 -- a number of 64 bits, as the machine reads it
 abbrev kept : ℤ → ℤ
 kept x = toZ w64 (ofZ w64 x)
-
--- two amounts of money
-module _ {x y : ℤ} (h : Within maxCash x) (k : Within maxCash y) where
-  pub sum-fits : SFits w64 (kept x +ℤ kept y)
-  sum-fits = fits w64 (plus (param w64 h tt) (param w64 k tt)) tt
-
-  pub difference-fits : SFits w64 (kept x -ℤ kept y)
-  difference-fits = fits w64 (minus (param w64 h tt) (param w64 k tt)) tt
 
 -- a position, read from 32 bits, times the value of a price
 abbrev worth : ℤ → ℕ → ℤ
@@ -32,7 +25,7 @@ module _ {n : ℤ} {v : ℕ} (h : Within maxPosition n) (k : v ≤ maxValue) whe
   pub worth-fits : SFits w64 (worth n v)
   worth-fits = fits w64 worth-read tt
 
--- the difference of two such products, and money beside it
+-- the difference of two such products, and that less what trades cost, which stands in an array under another term
 module _ {n b : ℤ} {v u : ℕ} (h : Within maxPosition n) (k : v ≤ maxValue) (i : Within maxPosition b) (j : u ≤ maxValue) where
   abbrev pub gain-read : Reads maxGain ((n *ℤ pos v) -ℤ (b *ℤ pos u))
   gain-read = minus (local w64 (worth-read h k) tt) (local w64 (worth-read i j) tt)
@@ -40,9 +33,6 @@ module _ {n b : ℤ} {v u : ℕ} (h : Within maxPosition n) (k : v ≤ maxValue)
   pub gain-fits : SFits w64 (kept (worth n v) -ℤ kept (worth b u))
   gain-fits = fits w64 gain-read tt
 
-  module _ {m : ℤ} (g : Within mostInADay m) where
-    abbrev pub money-read : Reads (mostInADay + maxGain) (m +ℤ ((n *ℤ pos v) -ℤ (b *ℤ pos u)))
-    money-read = plus (param w64 g tt) (local w64 gain-read tt)
-
-    pub money-fits : SFits w64 (kept m +ℤ kept (kept (worth n v) -ℤ kept (worth b u)))
-    money-fits = fits w64 money-read tt
+  module _ {x y : ℤ} (e : y ≡ x) (g : Within maxTraded x) where
+    abbrev pub margin-read : Reads (maxGain + maxTraded) (((n *ℤ pos v) -ℤ (b *ℤ pos u)) -ℤ x)
+    margin-read = minus (local w64 gain-read tt) (local w64 (same y e g) tt)
