@@ -1,12 +1,11 @@
 -- What the code's products and differences ask: each fits, of whichever positions, values and costs within the bounds it is. Which they
 -- are is what the contracts say.
-use mathlib.Core.Path.{_≡_}
 use Prim.Native.Nat.{ℕ, _+_, _≤_}
 use lib.IntN.{ℤ, pos, _-ℤ_, _*ℤ_}
 use mir.Syntax.{w32, w64}
 use mir.Val.{SFits, toZ, ofZ}
 use Rattle.integer.specs.Bounds.{Within}
-use Rattle.integer.proofs.Machine.{Reads, param, same, nat, minus, times, local, fits}
+use Rattle.integer.proofs.Machine.{Reads, param, nat, minus, times, local, fits}
 use Rattle.margin.specs.Bounds.{maxValue, maxWorth, maxGain, maxTraded}
 use Rattle.terms.specs.Bounds.{maxPosition}
 
@@ -25,7 +24,7 @@ module _ {n : ℤ} {v : ℕ} (h : Within maxPosition n) (k : v ≤ maxValue) whe
   pub worth-fits : SFits w64 (worth n v)
   worth-fits = fits w64 worth-read tt
 
--- the difference of two such products, and that less what trades cost, which stands in an array under another term
+-- the difference of two such products, and that less what trades cost
 module _ {n b : ℤ} {v u : ℕ} (h : Within maxPosition n) (k : v ≤ maxValue) (i : Within maxPosition b) (j : u ≤ maxValue) where
   abbrev pub gain-read : Reads maxGain ((n *ℤ pos v) -ℤ (b *ℤ pos u))
   gain-read = minus (local w64 (worth-read h k) tt) (local w64 (worth-read i j) tt)
@@ -33,6 +32,9 @@ module _ {n b : ℤ} {v u : ℕ} (h : Within maxPosition n) (k : v ≤ maxValue)
   pub gain-fits : SFits w64 (kept (worth n v) -ℤ kept (worth b u))
   gain-fits = fits w64 gain-read tt
 
-  module _ {x y : ℤ} (e : y ≡ x) (g : Within maxTraded x) where
+  module _ {x : ℤ} (g : Within maxTraded x) where
     abbrev pub margin-read : Reads (maxGain + maxTraded) (((n *ℤ pos v) -ℤ (b *ℤ pos u)) -ℤ x)
-    margin-read = minus (local w64 gain-read tt) (local w64 (same y e g) tt)
+    margin-read = minus (local w64 gain-read tt) (param w64 g tt)
+
+    pub margin-fits : SFits w64 (kept (kept (worth n v) -ℤ kept (worth b u)) -ℤ kept x)
+    margin-fits = fits w64 margin-read tt

@@ -26,7 +26,7 @@ loop-holds : tie.Need-loop-holds Inv-loop μ-loop
 loop-holds c = (omega arith, filled-start _ (pos 0) _ (search needs))
 
 of-account-requires : tie.Need-of-account-requires Inv-loop μ-loop
-of-account-requires c κs = (c .before .before .pre, c .loop-test .taken)
+of-account-requires c κs = (c .before .before .pre, omega (arith, c .loop-test .taken))
 
 mul-out : tie.Need-mul-out Inv-loop μ-loop
 mul-out c = search needs
