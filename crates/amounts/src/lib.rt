@@ -13,25 +13,25 @@ ghost use Rattle.margin.specs.Bounds.{mostInASeries, mostInADay, maxCash};
 ghost use Rattle.margin.specs.BySeries.{cell, cells, inSeries, inAll};
 ghost use Rattle.margin.specs.Margin.{CostsIn, Revaluable};
 
-// The variation margin of a series, n × V(p) − B × V(b) less what its trades cost, in the place of what they cost. `value` is V(p) and
-// `evening_value` is V(b).
+// The variation margin of a series, n × V(p) − B × V(b) less what its trades cost, in the place of what they cost. `price_value` is V(p)
+// and `evening_value` is V(b).
 pub fn revalue(
     amounts: &mut [i64; SERIES * ACCOUNTS],
     series: usize,
     positions: [i32; PLACES],
     opening: [i32; PLACES],
-    value: u64,
+    price_value: u64,
     evening_value: u64,
 )
-    requires { ⌜ (CostsIn series (now amounts)) × (Revaluable positions opening value «evening_value») ⌝ }
-    ensures { λ r. ⌜ now (amounts .exit) ≡ inSeries series (λ a cost. at positions a *ℤ pos value -ℤ at opening a *ℤ pos «evening_value» -ℤ cost) (now (amounts .entry)) ⌝ }
+    requires { ⌜ (CostsIn series (now amounts)) × (Revaluable positions opening «price_value» «evening_value») ⌝ }
+    ensures { λ r. ⌜ now (amounts .exit) ≡ inSeries series (λ a cost. at positions a *ℤ pos «price_value» -ℤ at opening a *ℤ pos «evening_value» -ℤ cost) (now (amounts .entry)) ⌝ }
 {
     let first = series * ACCOUNTS;
     let mut a: usize = 0;
     while a < ACCOUNTS {
         let n = positions[a] as i64;
         let b = opening[a] as i64;
-        let gain = n * value as i64 - b * evening_value as i64;
+        let gain = n * price_value as i64 - b * evening_value as i64;
         amounts[first + a] = gain - amounts[first + a];
         a += 1;
     }

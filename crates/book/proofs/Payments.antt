@@ -1,6 +1,6 @@
 -- What the day's intraday session paid, as the book keeps it by series and account.
-use mathlib.Core.Path.{_≡_, refl, sym, ap, _∙_}
-use mathlib.Core.Bool.{Bool, false, not}
+use mathlib.Core.Path.{_≡_, sym, ap, _∙_}
+use mathlib.Core.Bool.{false, not}
 use mathlib.Core.List.{List}
 use Prim.Native.Nat.{ℕ, _<_, _≤_}
 use native.Mathlib.Decide.{decLt}
@@ -8,7 +8,6 @@ use native.Mathlib.Omega.{arith}
 use lib.Dec.{ltb}
 use lib.IntN.{ℤ, pos}
 use Rattle.choice.specs.Choice.{choose}
-use Rattle.integer.specs.Sum.{sumTo}
 use Rattle.integer.proofs.Sum.{at-zeros, sum-ext, sum-0}
 use Rattle.integer.specs.Table.{at}
 use Rattle.margin.specs.BySeries.{cell, cells}

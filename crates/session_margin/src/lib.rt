@@ -53,11 +53,11 @@ fn revalue_series(
         return;
     }
     let c = s.mark.coefficient;
-    let now = value(c, s.mark.option);
-    let evening = value(c, s.evening_price);
+    let price_value = value(c, s.mark.option);
+    let evening_value = value(c, s.evening_price);
     let positions = next.positions;
     let opening = s.opening;
-    revalue(amounts, i, positions, opening, now, evening);
+    revalue(amounts, i, positions, opening, price_value, evening_value);
 }
 
 // The variation margin of each live series and account, where `after` are the series after the session: what positions gain, less what
