@@ -108,11 +108,15 @@ module _ (b : Book) (g : Good b) where
   unfolding eveningMarginIn
   evening-margin-small i a lt = margin-small i a _ _ lt (g .series i lt .option) (closing-within (b .day) (seriesAt b i) (g .series i lt) a)
 
+  pub evening-margin-balances : (i : ℕ) → i < seriesRoom → sumTo accounts (eveningMarginIn b i) ≡ pos 0
+  unfolding eveningMarginIn
+  evening-margin-balances i lt =
+      margin-balances i (seriesAt b i .mark .option) (λ a. closing (seriesAt b i) (b .day) a) lt (closing-balances (b .day) (seriesAt b i) (g .series i lt))
+
   pub evening-balances-in : (i : ℕ) → i < seriesRoom → sumTo accounts (eveningMoneyIn b i) ≡ pos 0
-  unfolding eveningMoneyIn eveningMarginIn
+  unfolding eveningMoneyIn
   evening-balances-in i lt =
-      sum-sub accounts (eveningMarginIn b i) (intradayPaid b i)
-      ∙ rw (margin-balances i (seriesAt b i .mark .option) (λ a. closing (seriesAt b i) (b .day) a) lt (closing-balances (b .day) (seriesAt b i) (g .series i lt)), g .paid-balances i lt) refl
+      sum-sub accounts (eveningMarginIn b i) (intradayPaid b i) ∙ rw (evening-margin-balances i lt, g .paid-balances i lt) refl
 
   pub evening-balances : sumTo accounts (eveningMoney b) ≡ pos 0
   unfolding eveningMoney

@@ -2,15 +2,16 @@
 use borrow.Author.Needs.{needs}
 use mathlib.Core.Path.{_≡_, sym}
 use mathlib.Core.Logic.{_≢_}
-use Prim.Native.Nat.{ℕ, _-_, _≤_, _<_}
+use Prim.Native.Nat.{ℕ, _+_, _-_, _≤_, _<_}
 use native.Mathlib.Omega.{arith}
-use lib.IntN.{pos}
-use lib.ListN.{getD}
+use lib.IntN.{pos, _+ℤ_}
+use lib.ListN.{getD, set}
 use mir.Syntax.{w64}
 use Rattle.integer.specs.Bounds.{Bounded}
-use Rattle.integer.proofs.Bounds.{within-pos}
-use Rattle.integer.proofs.Machine.{Reads, same, local, fits, more, fewer, moved-is}
+use Rattle.integer.proofs.Bounds.{within-pos, bounded-le, bounded-set}
+use Rattle.integer.proofs.Machine.{Reads, param, same, plus, minus, local, fits, moved-is}
 use Rattle.integer.proofs.Sum.{sumTo-zero, sumTo-next}
+use Rattle.integer.specs.Table.{at}
 use Rattle.margin.specs.Bounds.{maxDue, maxTraded}
 use Rattle.margin.specs.BySeries.{cell, cells}
 use Rattle.margin.specs.Margin.{tradeOf, tradesCost, TradeWithin}
@@ -71,6 +72,13 @@ module _ (c : tie.After-amount Inv-loop μ-loop) where
       (same (c .amount .result) (c .amount .ensures) (within-pos (due-small (coefficient turn) (trade turn) (turn .before .before .pre .2 .each _) (within turn))))
       tt
 
+  -- the first store, of whichever place and at whichever, leaves each amount within one trade more
+  abbrev more-by : (q : ℕ) → Reads (maxTraded + maxDue) (at (turn .before .loop .out) q +ℤ pos (due (coefficient turn) (trade turn)))
+  more-by q = plus (param w64 (bounded turn .each q) tt) owed
+
+  stored : (p q : ℕ) → Bounded (maxTraded + maxDue) (set (turn .before .loop .out) p (local w64 (more-by q) tt .raw))
+  stored p q = bounded-set p (bounded-le (bounded turn) (omega arith)) (rw (local w64 (more-by q) tt .is) (more-by q .bound))
+
 loop-holds : tie.Need-loop-holds Inv-loop μ-loop
 loop-holds c = (omega arith, holds-zeros _ (λ i a. sumTo-zero _))
 
@@ -90,13 +98,13 @@ cast-buyer : tie.Need-cast-buyer Inv-loop μ-loop
 cast-buyer c = search needs
 
 add-buyer : tie.Need-add-buyer Inv-loop μ-loop
-add-buyer c = omega (arith, bought (c .before .before .before))
+add-buyer c = omega (arith, bought (c .before .before .before), sold (c .before .before .before))
 
 cast-seller : tie.Need-cast-seller Inv-loop μ-loop
 cast-seller c = search needs
 
 add-seller : tie.Need-add-seller Inv-loop μ-loop
-add-seller c = omega (arith, sold (c .before .before .before .before))
+add-seller c = omega (arith, bought (c .before .before .before .before), sold (c .before .before .before .before))
 
 mul-amount : tie.Need-mul-amount Inv-loop μ-loop
 mul-amount c = omega (arith, within (c .before .before .before .before) .series)
@@ -108,36 +116,34 @@ amount-requires : tie.Need-amount-requires Inv-loop μ-loop
 amount-requires c κs = (within (c .before .before .before .before), c .before .before .before .before .before .before .pre .2 .each _)
 
 mul-out : tie.Need-mul-out Inv-loop μ-loop
-mul-out c = omega (arith, bought (turn c))
+mul-out c = omega (arith, bought (turn c), sold (turn c))
 
 array-copy-out-out : tie.Need-array-copy-out-out Inv-loop μ-loop
-array-copy-out-out c = bought (turn c)
+array-copy-out-out c = omega (arith, bought (turn c), sold (turn c))
 
 add-out : tie.Need-add-out Inv-loop μ-loop
-add-out c = let l = turn (c .before) in
-    fits w64 (more w64 (l .before .loop .out) (buyer l) (seller l) (apart l) (bounded l) (owed (c .before)) tt tt) tt
+add-out c = fits w64 (more-by (c .before) _) tt
 
 mul-out-2 : tie.Need-mul-out-2 Inv-loop μ-loop
-mul-out-2 c = omega (arith, bought (turn (c .before)))
+mul-out-2 c = omega (arith, bought (turn (c .before)), sold (turn (c .before)))
 
 array-set-from-out : tie.Need-array-set-from-out Inv-loop μ-loop
-array-set-from-out c = bought (turn (c .before))
+array-set-from-out c = omega (arith, bought (turn (c .before)), sold (turn (c .before)))
 
 mul-out-3 : tie.Need-mul-out-3 Inv-loop μ-loop
-mul-out-3 c = omega (arith, sold (turn (c .before)))
+mul-out-3 c = omega (arith, bought (turn (c .before)), sold (turn (c .before)))
 
 array-copy-out-out-2 : tie.Need-array-copy-out-out-2 Inv-loop μ-loop
-array-copy-out-out-2 c = sold (turn (c .before))
+array-copy-out-out-2 c = omega (arith, bought (turn (c .before)), sold (turn (c .before)))
 
 sub-out : tie.Need-sub-out Inv-loop μ-loop
-sub-out c = let l = turn (c .before .before) in
-    fits w64 (fewer w64 (l .before .loop .out) (buyer l) (seller l) (apart l) (bounded l) (owed (c .before .before)) tt tt) tt
+sub-out c = fits w64 (minus (param w64 (stored (c .before .before) _ _ .each _) tt) (owed (c .before .before))) tt
 
 mul-out-4 : tie.Need-mul-out-4 Inv-loop μ-loop
-mul-out-4 c = omega (arith, sold (turn (c .before .before)))
+mul-out-4 c = omega (arith, bought (turn (c .before .before)), sold (turn (c .before .before)))
 
 array-set-from-out-2 : tie.Need-array-set-from-out-2 Inv-loop μ-loop
-array-set-from-out-2 c = sold (turn (c .before .before))
+array-set-from-out-2 c = omega (arith, bought (turn (c .before .before)), sold (turn (c .before .before)))
 
 add-k : tie.Need-add-k Inv-loop μ-loop
 add-k c = search needs
