@@ -33,6 +33,8 @@ use Rattle.book.proofs.Money.{if-balances, intraday-small, intraday-wit
 use Rattle.book.proofs.Payments.{none-paid, none-today, paid-after, today-after, not-live-before}
 use Rattle.book.proofs.Revaluation.{choice-small}
 
+-- ---- the series
+
 -- what holds of a live series once it is changed, and of the others as they are, holds of each
 pub each-changed : (b : Book) (change : Series → Series) (P : ℕ → Series → Type 0)
     → ((i : ℕ) → i < seriesRoom → live b i ≡ true → P i (change (seriesAt b i)))

@@ -28,6 +28,8 @@ use Rattle.book.specs.declared.state.Book.{Book}
 use Rattle.book.proofs.Live.{live-listed, live-unlisted}
 use Rattle.book.proofs.Trades.{coefficientsOf, trades-within, traded-nothing}
 
+-- ---- the amounts
+
 -- the margin by the series that the session leaves
 abbrev pub marginBy : Book → List Series → ℕ → ℕ → ℤ
 marginBy b after i a = choose (live b i) (marginIn b i a (seriesAt b i .mark .option) (positionOf (getD after i noSeries) a)) (pos 0)
@@ -39,6 +41,8 @@ marginFrom s next a cost = marginOf (s .mark .coefficient) (positionOf next a) (
 -- the first i series have their margin, the others what their trades cost
 abbrev pub marginsBy : Book → List Series → ℕ → ℕ → ℕ → ℤ
 marginsBy b after i j a = choose (ltb j i) (marginBy b after j a) (tradedIn b j a)
+
+-- ---- the loop
 
 module _ (b : Book) (g : Good b) (after : List Series) where
   pub margins-start : (l : List ℤ) → l ≡ bySeries (λ i a. tradesCost (b .blotter) (b .trades) i (getD (coefficientsOf b) i 0) a)

@@ -28,7 +28,7 @@ Inv-loop trades blotter coefficients out₀ k₀ out k =
 abbrev μ-loop : tie.MeasureT-loop
 μ-loop trades blotter coefficients out₀ k₀ out k = trades - k
 
--- the turn of the loop
+-- ---- the turn of the loop
 module _ (c : tie.In-loop Inv-loop μ-loop) where
   abbrev trade : Trade
   trade = tradeOf (c .before .before .args .t1) (c .before .loop .k)
@@ -61,7 +61,7 @@ module _ (c : tie.In-loop Inv-loop μ-loop) where
       (λ i a _ _. trades-small (c .before .before .args .t1) (c .before .loop .k) (omega arith) (record { each = λ j l. c .before .before .pre .1 .each j (omega arith) }) i _
       (c .before .before .pre .2 .each i) a)
 
--- what is due, as the call gave it
+-- ---- what is due, as the call gave it
 module _ (c : tie.After-amount Inv-loop μ-loop) where
   abbrev turn : tie.In-loop Inv-loop μ-loop
   turn = c .before .before .before .before .before
@@ -78,6 +78,8 @@ module _ (c : tie.After-amount Inv-loop μ-loop) where
 
   stored : (p q : ℕ) → Bounded (maxTraded + maxDue) (set (turn .before .loop .out) p (local w64 (more-by q) tt .raw))
   stored p q = bounded-set p (bounded-le (bounded turn) (omega arith)) (rw (local w64 (more-by q) tt .is) (more-by q .bound))
+
+-- ---- what the code asks, in its order
 
 loop-holds : tie.Need-loop-holds Inv-loop μ-loop
 loop-holds c = (omega arith, holds-zeros _ (λ i a. sumTo-zero _))

@@ -24,6 +24,8 @@ Inv-loop option positions exercised assigned remaining₀ arisen₀ place₀ rem
 abbrev μ-loop : tie.MeasureT-loop
 μ-loop option positions exercised assigned remaining₀ arisen₀ place₀ remaining arisen place = places - place
 
+-- ---- what the code asks, in its order
+
 loop-holds : tie.Need-loop-holds Inv-loop μ-loop
 loop-holds c = (omega arith, filled-start _ (pos 0) _ refl, filled-start _ (pos 0) _ refl)
 

@@ -23,7 +23,7 @@ use Rattle.sessions.proofs.evening.Tie as tie
 abbrev start : tie.After-settle-all → tie.Start
 start c = c .before .before .before .before .before .before
 
--- the margin, what is left of it, the money and the cash are the rule's
+-- ---- the margin, what is left of it, the money and the cash are the rule's
 margin : (c : tie.After-variation-margin) → c .variation-margin .result ≡ bySeries (paidFor (start (c .before) .args .book) (eveningMarginIn (start (c .before) .args .book)))
 margin c =
     let s = start (c .before) in
@@ -51,6 +51,8 @@ cash : (c : tie.After-pay) → c .pay .result ≡ paidInto (startOf (c .before .
 cash c =
     let b = startOf (c .before .before) .args .book in
     c .pay .ensures ∙ paid-into (b .cash) (eveningMoney b) _ (money (c .before .before))
+
+-- ---- what the code asks, in its order
 
 refused-requires : tie.Need-refused-requires
 refused-requires c κs = search needs

@@ -20,7 +20,7 @@ use Rattle.sessions.proofs.intraday.Tie as tie
 abbrev start : tie.After-unmark-all → tie.Start
 start c = c .before .before .before .before .before .before .before
 
--- the margin, the money and the cash are the rule's
+-- ---- the margin, the money and the cash are the rule's
 margin : (c : tie.After-variation-margin) → c .variation-margin .result ≡ bySeries (paidFor (start (c .before) .args .book) (intradayMoneyIn (start (c .before) .args .book)))
 margin c =
     let s = start (c .before) in
@@ -38,6 +38,8 @@ cash : (c : tie.After-pay) → c .pay .result ≡ paidInto (startOf (c .before .
 cash c =
     let b = startOf (c .before .before) .args .book in
     c .pay .ensures ∙ paid-into (b .cash) (intradayMoney b) _ (money (c .before .before))
+
+-- ---- what the code asks, in its order
 
 refused-requires : tie.Need-refused-requires
 refused-requires c κs = search needs
