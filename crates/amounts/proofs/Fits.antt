@@ -1,47 +1,40 @@
--- What the code's sums, differences and products ask: each fits, of whichever accounts, positions and prices within the bounds it is.
--- Which they are is what the contracts say.
-use Prim.Native.Nat.{ℕ, _≤_}
-use lib.IntN.{ℤ, pos, _+ℤ_, _-ℤ_, _*ℤ_}
+-- What the code's products and differences ask: each fits, of whichever positions, values and costs within the bounds it is. Which they
+-- are is what the contracts say.
+use Prim.Native.Nat.{ℕ, _+_, _≤_}
+use lib.IntN.{ℤ, pos, _-ℤ_, _*ℤ_}
 use mir.Syntax.{w32, w64}
 use mir.Val.{SFits, toZ, ofZ}
 use Rattle.integer.specs.Bounds.{Within}
-use Rattle.integer.proofs.Machine.{Reads, param, nat, plus, minus, times, local, fits}
+use Rattle.integer.proofs.Machine.{Reads, param, nat, minus, times, local, fits}
+use Rattle.margin.specs.Bounds.{maxValue, maxWorth, maxGain, maxTraded}
 use Rattle.terms.specs.Bounds.{maxPosition}
 
 -- a number of 64 bits, as the machine reads it
 abbrev kept : ℤ → ℤ
 kept x = toZ w64 (ofZ w64 x)
 
--- two amounts of money
-module _ {x y : ℤ} (h : Within 4000000000000000000 x) (k : Within 4000000000000000000 y) where
-  pub sum-fits : SFits w64 (kept x +ℤ kept y)
-  sum-fits = fits w64 (plus (param w64 h tt) (param w64 k tt)) tt
-
-  pub difference-fits : SFits w64 (kept x -ℤ kept y)
-  difference-fits = fits w64 (minus (param w64 h tt) (param w64 k tt)) tt
-
 -- a position, read from 32 bits, times the value of a price
 abbrev worth : ℤ → ℕ → ℤ
 worth n v = kept (toZ w32 (ofZ w32 n)) *ℤ toZ w64 v
 
-module _ {n : ℤ} {v : ℕ} (h : Within maxPosition n) (k : v ≤ 2000000000) where
-  abbrev pub worth-read : Reads 200000000000000 (n *ℤ pos v)
+module _ {n : ℤ} {v : ℕ} (h : Within maxPosition n) (k : v ≤ maxValue) where
+  abbrev pub worth-read : Reads maxWorth (n *ℤ pos v)
   worth-read = times (local w64 (param w32 h tt) tt) (nat w64 k tt)
 
   pub worth-fits : SFits w64 (worth n v)
   worth-fits = fits w64 worth-read tt
 
--- the difference of two such products, and money beside it
-module _ {n b : ℤ} {v u : ℕ} (h : Within maxPosition n) (k : v ≤ 2000000000) (i : Within maxPosition b) (j : u ≤ 2000000000) where
-  abbrev pub gain-read : Reads 400000000000000 ((n *ℤ pos v) -ℤ (b *ℤ pos u))
+-- the difference of two such products, and that less what trades cost
+module _ {n b : ℤ} {v u : ℕ} (h : Within maxPosition n) (k : v ≤ maxValue) (i : Within maxPosition b) (j : u ≤ maxValue) where
+  abbrev pub gain-read : Reads maxGain ((n *ℤ pos v) -ℤ (b *ℤ pos u))
   gain-read = minus (local w64 (worth-read h k) tt) (local w64 (worth-read i j) tt)
 
   pub gain-fits : SFits w64 (kept (worth n v) -ℤ kept (worth b u))
   gain-fits = fits w64 gain-read tt
 
-  module _ {m : ℤ} (g : Within 1000000000000000000 m) where
-    abbrev pub money-read : Reads 1000400000000000000 (m +ℤ ((n *ℤ pos v) -ℤ (b *ℤ pos u)))
-    money-read = plus (param w64 g tt) (local w64 gain-read tt)
+  module _ {x : ℤ} (g : Within maxTraded x) where
+    abbrev pub margin-read : Reads (maxGain + maxTraded) (((n *ℤ pos v) -ℤ (b *ℤ pos u)) -ℤ x)
+    margin-read = minus (local w64 gain-read tt) (param w64 g tt)
 
-    pub money-fits : SFits w64 (kept m +ℤ kept (kept (worth n v) -ℤ kept (worth b u)))
-    money-fits = fits w64 money-read tt
+    pub margin-fits : SFits w64 (kept (kept (worth n v) -ℤ kept (worth b u)) -ℤ kept x)
+    margin-fits = fits w64 margin-read tt

@@ -1,15 +1,18 @@
 -- What holds of every book holds of the empty one.
-use mathlib.Core.Path.{_≡_, refl}
+use mathlib.Core.Path.{_≡_, refl, _∙_}
 use Prim.Native.Nat.{ℕ, _<_}
 use native.Mathlib.Omega.{arith}
 use lib.ListN.{getD-replicate}
 use Rattle.integer.proofs.Bounds.{within-pos, bounded-zeros}
-use Rattle.integer.proofs.Sum.{at-zeros, sum-zeros}
+use Rattle.integer.proofs.Sum.{at-zeros, sum-ext, sum-0, sum-zeros}
+use Rattle.margin.specs.Bounds.{mostInASeries}
+use Rattle.margin.specs.BySeries.{cells}
 use Rattle.terms.specs.Bounds.{accounts, seriesRoom}
 use Rattle.series.specs.Series.{newSeries}
 use Rattle.series.proofs.Keeps.{good-new}
-use Rattle.book.specs.Good.{Good, mostInADay}
+use Rattle.book.specs.Good.{Good}
 use Rattle.book.specs.State.{emptyBook, seriesAt, noListing, noSeries}
+use Rattle.book.proofs.Payments.{none-paid, none-today}
 
 blank : (i : ℕ) → i < seriesRoom → seriesAt emptyBook i ≡ newSeries noListing
 blank i lt = getD-replicate seriesRoom i (newSeries noListing) noSeries lt
@@ -35,9 +38,11 @@ good-empty =
       idle = λ i lt _. none i lt;
       unlisted = λ i _ lt. blank i lt;
       blotter = λ k lt. none k lt;
-      paid = bounded-zeros mostInADay accounts;
-      fresh = λ _ a. at-zeros accounts a;
-      paid-balances = sum-zeros accounts accounts;
-      settled = λ a. rw (at-zeros accounts a) (within-pos (omega arith));
+      paid = bounded-zeros mostInASeries cells;
+      paid-in-all = λ a _. rw (none-today emptyBook refl a) (within-pos (omega arith));
+      fresh = λ _. refl;
+      paid-live = λ i a _ _ _. none-paid emptyBook refl i a;
+      paid-balances = λ i _. sum-ext accounts _ _ (λ a _. none-paid emptyBook refl i a) ∙ sum-0 accounts;
+      evening-cash = λ a _. rw (at-zeros accounts a, none-today emptyBook refl a) (within-pos (omega arith));
       cash-balances = sum-zeros accounts accounts;
     }

@@ -25,6 +25,7 @@ use Rattle.book.specs.State.{seriesAt, tradeAt, todayOf, withSeries, wit
 use Rattle.book.specs.Step.{listed, entryOf, withTrade}
 use Rattle.book.specs.declared.state.Book.{Book}
 use Rattle.book.proofs.Allowed.{ListAllowed, CanTrade, CanExercise, CanDecline, CanMark}
+use Rattle.book.proofs.Payments.{not-live-before}
 
 -- what holds of v at i and of all other elements of a list holds of each, once v is stored at i
 each-set : {A : Type 0} (l : List A) (i : ℕ) (v d : A) (P : ℕ → A → Type 0) → i < length l → P i v
@@ -80,7 +81,9 @@ module _ (b : Book) (g : Good b) where
           paid = g .paid;
           fresh = g .fresh;
           paid-balances = g .paid-balances;
-          settled = g .settled;
+          paid-in-all = g .paid-in-all;
+          paid-live = λ j a room l e. g .paid-live j a room l (not-live-before b (withSeries b i s) refl (omega arith) (λ k _. same-listing k) j e);
+          evening-cash = g .evening-cash;
           cash-balances = g .cash-balances;
         }
       where
@@ -136,7 +139,9 @@ good-entry b g t w room =
       paid = g .paid;
       fresh = g .fresh;
       paid-balances = g .paid-balances;
-      settled = g .settled;
+      paid-in-all = g .paid-in-all;
+      paid-live = g .paid-live;
+      evening-cash = g .evening-cash;
       cash-balances = g .cash-balances;
     }
   where
@@ -195,7 +200,9 @@ good-list b g n c =
       paid = g .paid;
       fresh = g .fresh;
       paid-balances = g .paid-balances;
-      settled = g .settled;
+      paid-in-all = g .paid-in-all;
+      paid-live = λ j a room lt e. g .paid-live j a room lt (not-live-before b (listed b l) refl (omega arith) same-listing j e);
+      evening-cash = g .evening-cash;
       cash-balances = g .cash-balances;
     }
   where

@@ -5,28 +5,35 @@ use Prim.Native.Nat.{ℕ, _+_, _*_, _≤_, _<_}
 use native.Mathlib.Decide.{decLt}
 use native.Mathlib.Omega.{arith}
 use lib.IntN.{ℤ, pos, _+ℤ_, _-ℤ_, +ℤ-idr, +ℤ-negℤ-cancel}
-use lib.ListN.{getD, List·getD-eq-default}
+use lib.ListN.{getD}
 use Rattle.choice.specs.Choice.{choose}
 use Rattle.integer.specs.Bounds.{Within}
-use Rattle.integer.proofs.Bounds.{within-pos, bounded-table, bounded-zeros}
-use Rattle.integer.specs.Table.{at, table}
+use Rattle.integer.proofs.Bounds.{within-pos, bounded-zeros}
+use Rattle.integer.specs.Table.{at}
 use Rattle.integer.specs.Sum.{sumTo}
-use Rattle.integer.proofs.Sum.{at-zeros, sum-zeros, sum-add, sum-table}
+use Rattle.integer.proofs.Sum.{sum-ext, sum-0, sum-add, sum-table}
 use Rattle.integer.proofs.Table.{length-table, getD-table}
+use Rattle.margin.specs.Bounds.{mostInASeries, mostInADay}
+use Rattle.margin.specs.BySeries.{cells}
+use Rattle.margin.proofs.BySeries.{bounded-by-series}
 use Rattle.terms.specs.Bounds.{accounts, seriesRoom}
 use Rattle.series.specs.Changes.{unmarked, settled}
 use Rattle.series.specs.Good.{GoodSeries}
 use Rattle.series.specs.Series.{newSeries}
 use Rattle.series.specs.declared.state.Series.{Series}
 use Rattle.series.proofs.Keeps.{good-unmarked, good-settled, good-later}
-use Rattle.book.specs.Good.{Good, Idle, mostInADay}
-use Rattle.book.specs.Sessions.{changed, intradayMoney, eveningMoney, paidInto, afterIntraday, afterEvening}
+use Rattle.book.specs.Good.{Good, Idle}
+use Rattle.book.specs.Sessions.{changed, intradayMoneyIn, intradayMoney, eveningMoney, paidToday, paidInto, afterIntraday, afterEvening}
 use Rattle.book.specs.State.{seriesAt, tradeAt, live, cash, noListing, noSeries}
 use Rattle.book.specs.declared.state.Book.{Book}
 use Rattle.book.proofs.Allowed.{CanIntraday, CanEvening}
 use Rattle.book.proofs.KeepsEvents.{same-trade}
 use Rattle.book.proofs.Live.{live-yes, is-live, false-not-true}
-use Rattle.book.proofs.Money.{intraday-within, intraday-balances, evening-balances, settled-within}
+use Rattle.book.proofs.Money.{if-balances, intraday-small, intraday-within, intraday-balances-in, intraday-balances, evening-balances, evening-cash-within}
+use Rattle.book.proofs.Payments.{none-paid, none-today, paid-after, today-after, not-live-before}
+use Rattle.book.proofs.Revaluation.{choice-small}
+
+-- ---- the series
 
 -- what holds of a live series once it is changed, and of the others as they are, holds of each
 pub each-changed : (b : Book) (change : Series → Series) (P : ℕ → Series → Type 0)
@@ -41,21 +48,9 @@ each-changed b change P p q i lt =
     by true e = p i lt e
     by false e = q i lt e
 
--- a table is 0 past its end
-past-table : (f : ℕ → ℤ) (a : ℕ) → accounts ≤ a → at (table accounts f) a ≡ pos 0
-past-table f a le = List·getD-eq-default (table accounts f) (pos 0) {n = a} (rw (length-table accounts f) le)
-
--- by whether a is an account
-by-account : (P : ℕ → Type 0) → ((a : ℕ) → a < accounts → P a) → ((a : ℕ) → accounts ≤ a → P a) → (a : ℕ) → P a
-by-account P f g a = by (decLt a accounts)
-  where
-    by : Dec (a < accounts) → P a
-    by (yes lt) = f a lt
-    by (no ge) = g a (omega arith)
-
--- within a bound, less nothing
-less-zero : {B : ℕ} (x : ℤ) {y : ℤ} → y ≡ pos 0 → Within B x → Within B (x -ℤ y)
-less-zero x e h = rw (e, +ℤ-idr x) h
+not-paid : (t : Bool) (x : ℤ) → t ≡ false → choose t x (pos 0) ≡ pos 0
+unfolding choose
+not-paid t x e = rw e refl
 
 module _ (b : Book) (g : Good b) where
   room : (i : ℕ) → i < b .listed → i < seriesRoom
@@ -84,7 +79,7 @@ module _ (b : Book) (g : Good b) where
         trades = g .trades;
         series-long = length-table seriesRoom _;
         blotter-long = g .blotter-long;
-        paid-long = length-table accounts _;
+        paid-long = length-table cells _;
         cash-long = length-table accounts _;
         series =
             each (λ i s. GoodSeries (b .day) s) (λ i lt _. good-unmarked (b .day) (seriesAt b i) (g .series i lt)) (λ i lt _. g .series i lt);
@@ -94,10 +89,14 @@ module _ (b : Book) (g : Good b) where
             (room i lt) lt;
         unlisted = still-unlisted unmarked;
         blotter = λ k lt. same-trade b (afterIntraday b) (tradeAt b k) refl (omega arith) (λ i l. same-listing i (room i l)) (g .blotter k lt);
-        paid = bounded-table accounts (intradayMoney b) (λ a _. intraday-within b g a);
+        paid = bounded-by-series _ (λ i a lt _. choice-small (live b i) _ (intraday-small b g i a lt));
+        paid-in-all = λ a lt. rw (today-after b a lt) (intraday-within b g a);
         fresh = λ e. absurd (false-not-true (sym e));
-        paid-balances = sum-table accounts (intradayMoney b) ∙ intraday-balances b g;
-        settled = by-account (λ a. Within (b .day * mostInADay) (cash (afterIntraday b) a -ℤ at (afterIntraday b .«intraday_paid») a)) unchanged nobody;
+        paid-live = λ i a lt k e.
+            paid-after b i a lt k ∙ not-paid (live b i) (intradayMoneyIn b i a) (not-live-before b (afterIntraday b) refl (omega arith) (λ j l. same-listing j (room j l)) i e);
+        paid-balances = λ i lt.
+            sum-ext accounts _ _ (λ a k. paid-after b i a lt k) ∙ if-balances (live b i) accounts (intradayMoneyIn b i) (intraday-balances-in b g i lt);
+        evening-cash = unchanged;
         cash-balances = paid-into-balances (intradayMoney b) (intraday-balances b g);
       }
     where
@@ -112,15 +111,10 @@ module _ (b : Book) (g : Good b) where
       not-past i l past = omega (arith, live-yes b i l .today)
 
       -- cash without today's intraday payment is what it was before the session
-      unchanged : (a : ℕ) → a < accounts → Within (b .day * mostInADay) (cash (afterIntraday b) a -ℤ at (afterIntraday b .«intraday_paid») a)
+      unchanged : (a : ℕ) → a < accounts → Within (b .day * mostInADay) (cash (afterIntraday b) a -ℤ paidToday (afterIntraday b) a)
       unchanged a lt =
-          rw (getD-table accounts (λ a. cash b a +ℤ intradayMoney b a) a (pos 0) lt, getD-table accounts (intradayMoney b) a (pos 0) lt, +ℤ-negℤ-cancel (cash b a) (intradayMoney b a))
-          (rw (g .fresh (c .first) a, +ℤ-idr (cash b a)) at (g .settled a))
-
-      nobody : (a : ℕ) → accounts ≤ a → Within (b .day * mostInADay) (cash (afterIntraday b) a -ℤ at (afterIntraday b .«intraday_paid») a)
-      nobody a le =
-          less-zero (cash (afterIntraday b) a) (past-table (intradayMoney b) a le)
-          (rw (past-table (λ a. cash b a +ℤ intradayMoney b a) a le) (within-pos (omega arith)))
+          rw (getD-table accounts (λ a. cash b a +ℤ intradayMoney b a) a (pos 0) lt, today-after b a lt, +ℤ-negℤ-cancel (cash b a) (intradayMoney b a))
+          (rw (none-today b (g .fresh (c .first)) a, +ℤ-idr (cash b a)) at (g .evening-cash a lt))
 
   -- ---- the evening session
   pub good-evening : CanEvening b → Good (afterEvening b)
@@ -142,12 +136,12 @@ module _ (b : Book) (g : Good b) where
             (λ i _ n l. g .idle i l (expired-before i n l)) i (room i lt) lt;
         unlisted = still-unlisted (λ s. settled s (b .day));
         blotter = λ k lt. absurd (none k lt);
-        paid = bounded-zeros mostInADay accounts;
-        fresh = λ _ a. at-zeros accounts a;
-        paid-balances = sum-zeros accounts accounts;
-        settled = λ a.
-            less-zero (cash (afterEvening b) a) (at-zeros accounts a)
-            (by-account (λ a. Within ((b .day + 1) * mostInADay) (cash (afterEvening b) a)) paid nobody a);
+        paid = bounded-zeros mostInASeries cells;
+        paid-in-all = λ a _. rw (none-today (afterEvening b) refl a) (within-pos (omega arith));
+        fresh = λ _. refl;
+        paid-live = λ i a _ _ _. none-paid (afterEvening b) refl i a;
+        paid-balances = λ i _. sum-ext accounts _ _ (λ a _. none-paid (afterEvening b) refl i a) ∙ sum-0 accounts;
+        evening-cash = λ a lt. rw (none-today (afterEvening b) refl a, +ℤ-idr (cash (afterEvening b) a)) (paid a lt);
         cash-balances = paid-into-balances (eveningMoney b) (evening-balances b g);
       }
     where
@@ -169,7 +163,4 @@ module _ (b : Book) (g : Good b) where
           by (no today) = absurd (false-not-true (sym n ∙ is-live b i (record { listed = l; today = omega arith })))
 
       paid : (a : ℕ) → a < accounts → Within ((b .day + 1) * mostInADay) (cash (afterEvening b) a)
-      paid a lt = rw (getD-table accounts (λ a. cash b a +ℤ eveningMoney b a) a (pos 0) lt) (settled-within b g a)
-
-      nobody : (a : ℕ) → accounts ≤ a → Within ((b .day + 1) * mostInADay) (cash (afterEvening b) a)
-      nobody a le = rw (past-table (λ a. cash b a +ℤ eveningMoney b a) a le) (within-pos (omega arith))
+      paid a lt = rw (getD-table accounts (λ a. cash b a +ℤ eveningMoney b a) a (pos 0) lt) (evening-cash-within b g a lt)

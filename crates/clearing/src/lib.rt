@@ -44,7 +44,7 @@ pub fn empty() -> Book
         blotter: [none; BLOTTER],
         trades: 0,
         intraday_done: false,
-        intraday_paid: [0i64; ACCOUNTS],
+        intraday_paid: [0i64; SERIES * ACCOUNTS],
         cash: [0i64; ACCOUNTS],
     }
 }

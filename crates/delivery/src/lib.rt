@@ -32,8 +32,8 @@ fn futures(option: OptionType, exercised: u32, assigned: u32) -> i32
     }
 }
 
-// Both at each place.
-fn settled(
+// Both, place by place.
+fn by_place(
     option: OptionType,
     positions: [i32; PLACES],
     exercised: [u32; PLACES],
@@ -76,5 +76,5 @@ pub fn evening(
     }
     let assigned = writers::assign(in_all, positions);
     let option = fixing.option;
-    settled(option, positions, exercised, assigned)
+    by_place(option, positions, exercised, assigned)
 }

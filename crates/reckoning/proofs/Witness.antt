@@ -23,7 +23,7 @@ use Rattle.terms.specs.declared.Category.the-variants.{American}
 use Rattle.terms.specs.declared.OptionType.the-variants.{Call}
 use Rattle.value.specs.Rounding.{nearest}
 use Rattle.book.specs.Answers.{wasCarriedOut}
-use Rattle.book.specs.Sessions.{intradayMoney, eveningMargin, eveningMoney}
+use Rattle.book.specs.Sessions.{intradayMoneyIn, eveningMarginIn, eveningMoneyIn, intradayMoney, eveningMoney}
 use Rattle.book.specs.State.{emptyBook, futures, cash}
 use Rattle.book.specs.Step.{decided, stepOf, run, after}
 use Rattle.book.specs.Verdicts.{firstFrom, needsMark}
@@ -52,7 +52,7 @@ example p =
 
 -- what is opened to compute with the rules
 rules : Unit {0}
-unfolding choose sumTo sumℕ table signed cost costIn nearest inTheMoney half automatic exercised rank assigned exercise.shrunk exercise.futures exercise.remaining exercise.arisen passesLimit wasCarriedOut firstFrom needsMark intradayMoney eveningMargin eveningMoney decided run
+unfolding choose sumTo sumℕ table signed cost costIn nearest inTheMoney half automatic exercised rank assigned exercise.shrunk exercise.futures exercise.remaining exercise.arisen passesLimit wasCarriedOut firstFrom needsMark intradayMoneyIn eveningMarginIn eveningMoneyIn intradayMoney eveningMoney decided run
 rules = tt
 
 -- a test at each number below n

@@ -1,5 +1,4 @@
-// The variation margin of all accounts in a session.
-use amounts::less;
+// The variation margin of a session, by series and account.
 use amounts::revalue;
 use blotter::traded;
 use book::state::Book;
@@ -10,17 +9,19 @@ use valuation::value;
 ghost use mathlib.Core.Path.{_≡_};
 ghost use mathlib.Core.Bool.{not};
 ghost use Prim.Native.Nat.{ℕ, _<_};
-ghost use lib.IntN.{_+ℤ_};
+ghost use lib.IntN.{pos};
 ghost use lib.ListN.{getD};
 ghost use Rattle.choice.specs.Choice.{choose};
 ghost use Rattle.integer.specs.Bounds.{Bounded};
 ghost use Rattle.integer.specs.Table.{at, table};
-ghost use Rattle.terms.specs.Bounds.{accounts, seriesRoom, maxPosition};
+ghost use Rattle.margin.specs.BySeries.{bySeries, inSeries};
+ghost use Rattle.margin.specs.Margin.{CostsIn, marginOf};
+ghost use Rattle.terms.specs.Bounds.{seriesRoom, maxPosition};
 ghost use Rattle.series.specs.Good.{GoodSeries};
-ghost use Rattle.series.specs.Series.{expired, positionOf};
+ghost use Rattle.series.specs.Series.{expired, placeOf, positionOf};
 ghost use Rattle.book.specs.Good.{Good};
-ghost use Rattle.book.specs.Sessions.{overLive, revaluedIn, marginIn};
-ghost use Rattle.book.specs.State.{noSeries, seriesAt};
+ghost use Rattle.book.specs.Sessions.{marginIn};
+ghost use Rattle.book.specs.State.{noSeries, seriesAt, live};
 
 // The coefficient of each series' mark.
 fn coefficients(book: Book) -> [u32; SERIES]
@@ -37,46 +38,42 @@ fn coefficients(book: Book) -> [u32; SERIES]
     out
 }
 
-// The money, and what a live series' positions gain more, where `next` is the series after the session.
-fn revalue_series(money: [i64; ACCOUNTS], s: Series, next: Series, day: u32) -> [i64; ACCOUNTS]
-    requires { ⌜ (Bounded 1000000000000000000 money) × (GoodSeries day s) × (Bounded maxPosition (next .positions)) ⌝ }
-    ensures { λ r. ⌜ r ≡ choose (not (expired s day)) (table accounts (λ a. at money a +ℤ revaluedIn s a (positionOf next a))) money ⌝ }
+// The variation margin of a live series in the place of what its trades cost, where `next` is the series after the session.
+fn revalue_series(
+    amounts: &mut [i64; SERIES * ACCOUNTS],
+    i: usize,
+    s: Series,
+    next: Series,
+    day: u32,
+)
+    requires { ⌜ (CostsIn i (now amounts)) × (GoodSeries day s) × (Bounded maxPosition (next .positions)) ⌝ }
+    ensures { λ r. ⌜ now (amounts .exit) ≡ choose (not (expired s day)) (inSeries i (λ a cost. marginOf (s .mark .coefficient) (positionOf next a) (s .mark .option) (at (s .opening) (placeOf a)) (s .«evening_price») cost) (now (amounts .entry))) (now (amounts .entry)) ⌝ }
 {
     if s.listing.last_day < day {
-        return money;
+        return;
     }
     let c = s.mark.coefficient;
-    let now = value(c, s.mark.option);
-    let before = value(c, s.evening_price);
+    let price_value = value(c, s.mark.option);
+    let evening_value = value(c, s.evening_price);
     let positions = next.positions;
     let opening = s.opening;
-    revalue(money, positions, opening, now, before)
+    revalue(amounts, i, positions, opening, price_value, evening_value);
 }
 
-// What the positions of all live series gain, for each account.
-fn revaluation(book: Book, after: [Series; SERIES]) -> [i64; ACCOUNTS]
+// The variation margin of each live series and account, where `after` are the series after the session: what positions gain, less what
+// the day's trades cost.
+pub fn variation_margin(book: Book, after: [Series; SERIES]) -> [i64; SERIES * ACCOUNTS]
     requires { ⌜ (Good book) × ((i : ℕ) → i < seriesRoom → Bounded maxPosition (getD after i noSeries .positions)) ⌝ }
-    ensures { λ r. ⌜ r ≡ table accounts (λ a. overLive book (λ i. revaluedIn (seriesAt book i) a (positionOf (getD after i noSeries) a))) ⌝ }
+    ensures { λ r. ⌜ r ≡ bySeries (λ i a. choose (live book i) (marginIn book i a (seriesAt book i .mark .option) (positionOf (getD after i noSeries) a)) (pos 0)) ⌝ }
 {
-    let mut money = [0i64; ACCOUNTS];
+    let blotter = book.blotter;
+    let mut amounts = traded(blotter, book.trades, coefficients(book));
     let mut i: usize = 0;
     while i < book.listed {
         let s = book.series[i];
         let next = after[i];
-        let grown = revalue_series(money, s, next, book.day);
-        money = grown;
+        revalue_series(&mut amounts, i, s, next, book.day);
         i += 1;
     }
-    money
-}
-
-// The variation margin of each account: what positions gain, less what the day's trades cost.
-pub fn variation_margin(book: Book, after: [Series; SERIES]) -> [i64; ACCOUNTS]
-    requires { ⌜ (Good book) × ((i : ℕ) → i < seriesRoom → Bounded maxPosition (getD after i noSeries .positions)) ⌝ }
-    ensures { λ r. ⌜ r ≡ table accounts (λ a. overLive book (λ i. marginIn book i a (positionOf (getD after i noSeries) a))) ⌝ }
-{
-    let gains = revaluation(book, after);
-    let blotter = book.blotter;
-    let costs = traded(blotter, book.trades, coefficients(book));
-    less(gains, costs)
+    amounts
 }

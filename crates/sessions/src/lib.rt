@@ -1,4 +1,5 @@
 // The two sessions.
+use amounts::in_all;
 use amounts::less;
 use amounts::pay;
 use book::state::Answer;
@@ -14,13 +15,14 @@ use settling::settle_all;
 use settling::unmark_all;
 use terms::bounds::ACCOUNTS;
 use terms::bounds::FINAL_DAY;
+use terms::bounds::SERIES;
 ghost use mathlib.Core.Path.{_≡_};
 ghost use Rattle.series.specs.declared.refusal.Refusal.the-variants.{Finished};
 ghost use Rattle.book.specs.Good.{Good};
 ghost use Rattle.book.specs.Step as rule;
 ghost use Rattle.book.specs.declared.state.Event as happening;
 
-// Each account receives the variation margin so far, and the marks are dropped.
+// Each account receives the variation margin so far of all live series, and the marks are dropped.
 pub fn intraday(mut book: Book) -> Step
     requires { ⌜ Good book ⌝ }
     ensures { λ r. ⌜ r ≡ rule.stepOf book happening.Event.Intraday ⌝ }
@@ -35,12 +37,13 @@ pub fn intraday(mut book: Book) -> Step
         return refused(book, Refusal::NoMark(i));
     }
     let series = unmark_all(book);
-    let money = variation_margin(book, series);
+    let margin = variation_margin(book, series);
+    let money = in_all(&margin);
     let cash = book.cash;
     let paid = pay(cash, money);
     book.series = series;
     book.intraday_done = true;
-    book.intraday_paid = money;
+    book.intraday_paid = margin;
     book.cash = paid;
     Step {
         answer: Answer::Done,
@@ -49,7 +52,8 @@ pub fn intraday(mut book: Book) -> Step
     }
 }
 
-// First exercise, then money, then expiry: each account receives the day's variation margin less what the intraday session paid.
+// First exercise, then money, then expiry: each account receives, of all live series, the day's variation margin less what the
+// intraday session paid.
 pub fn evening(mut book: Book) -> Step
     requires { ⌜ Good book ⌝ }
     ensures { λ r. ⌜ r ≡ rule.stepOf book happening.Event.Evening ⌝ }
@@ -62,15 +66,16 @@ pub fn evening(mut book: Book) -> Step
     }
     let series = settle_all(book);
     let margin = variation_margin(book, series);
-    let before = book.intraday_paid;
-    let money = less(margin, before);
+    let intraday = book.intraday_paid;
+    let rest = less(margin, intraday);
+    let money = in_all(&rest);
     let cash = book.cash;
     let paid = pay(cash, money);
     book.series = series;
     book.day = book.day + 1;
     book.trades = 0;
     book.intraday_done = false;
-    book.intraday_paid = [0i64; ACCOUNTS];
+    book.intraday_paid = [0i64; SERIES * ACCOUNTS];
     book.cash = paid;
     Step {
         answer: Answer::Done,

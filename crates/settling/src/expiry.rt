@@ -11,6 +11,7 @@ ghost use Rattle.choice.specs.Choice.{choose};
 ghost use Rattle.exercise.specs.Places.{places};
 ghost use Rattle.integer.specs.Bounds.{Bounded};
 ghost use Rattle.integer.specs.Table.{at, table};
+ghost use Rattle.margin.specs.Bounds.{maxFutures};
 ghost use Rattle.terms.specs.Bounds.{maxPosition, finalDay};
 ghost use Rattle.series.specs.Good.{GoodSeries};
 ghost use Rattle.series.specs.Changes as rule;
@@ -24,7 +25,7 @@ fn closing(remaining: [i32; PLACES], last: bool) -> [i32; PLACES]
 
 // The futures of each place, and those that arose.
 fn grown(futures: [i32; PLACES], arisen: [i32; PLACES]) -> [i32; PLACES]
-    requires { ⌜ (Bounded 100000000 futures) × (Bounded maxPosition arisen) ⌝ }
+    requires { ⌜ (Bounded maxFutures futures) × (Bounded maxPosition arisen) ⌝ }
     ensures { λ r. ⌜ r ≡ table places (λ k. at futures k +ℤ at arisen k) ⌝ }
 {
     let mut out = [0i32; PLACES];

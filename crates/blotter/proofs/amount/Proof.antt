@@ -1,4 +1,4 @@
--- `blotter::amount` meets its contract: a quantity of at most 1,000 times a value of at most 2,000,000,000 fits.
+-- `blotter::amount` meets its contract: the product fits.
 use Prim.Native.Nat.{ℕ, _*_, _≤_}
 use native.Mathlib.Nat.{mul-le-mul}
 use native.Mathlib.Omega.{arith}
@@ -6,15 +6,16 @@ use mathlib.Core.Path.{ap, _∙_}
 use lib.IntN.{pos}
 use mir.Syntax.{w64}
 use Rattle.integer.proofs.Machine.{nat}
-use Rattle.value.proofs.Bounds.{option-value-bound}
+use Rattle.margin.specs.Bounds.{maxValue, maxDue}
+use Rattle.margin.proofs.Bounds.{option-value-bound}
 use borrow.Author.Needs.{needs}
 use Rattle.blotter.proofs.amount.Statement.{statement}
 use Rattle.blotter.proofs.amount.Tie as tie
 
-worth-small : (c : tie.After-struct-known) → c .before .value .result ≤ 2000000000
+worth-small : (c : tie.After-struct-known) → c .before .value .result ≤ maxValue
 worth-small c = rw (c .before .value .ensures) (option-value-bound _ _ (c .before .before .pre .1) (c .before .before .pre .0 .price))
 
-within : (c : tie.After-struct-known) → c .before .before .args .trade .quantity * c .before .value .result ≤ 2000000000000
+within : (c : tie.After-struct-known) → c .before .before .args .trade .quantity * c .before .value .result ≤ maxDue
 within c = mul-le-mul (c .before .before .pre .0 .quantity) (worth-small c)
 
 value-requires : tie.Need-value-requires

@@ -32,8 +32,8 @@ assign-requires c κs =
           (x .result) (e .result) (x .ensures) (e .ensures) (s .pre .1),
     )
 
-settled-requires : tie.Need-settled-requires
-settled-requires c κs =
+by-place-requires : tie.Need-by-place-requires
+by-place-requires c κs =
     let s = c .before .before .before .before in
     let x = c .before .before .before .exercised-by-place in
     let e = c .before .before .total in (
@@ -50,7 +50,7 @@ returns-2 c =
     let e = c .before .before .before .total in
     law.all-done (s .args .fixing) (s .args .positions) (s .args .requests) (s .args .declined) (s .pre .0)
     (x .result) (e .result) (x .ensures) (e .ensures) (s .pre .1) (c .before .assign .result) (c .before .assign .ensures)
-    (c .settled .result) (c .settled .ensures)
+    (c .by-place .result) (c .by-place .ensures)
 
 pub evening-spec : {M : Type 1} → statement M
 evening-spec =
@@ -60,5 +60,5 @@ evening-spec =
     total-requires
     returns
     assign-requires
-    settled-requires
+    by-place-requires
     returns-2)

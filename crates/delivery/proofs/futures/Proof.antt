@@ -1,17 +1,19 @@
 -- `delivery::futures` meets its contract. Assumes nothing.
 use borrow.Author.Needs.{needs}
+use Prim.Native.Nat.{_+_}
 use lib.IntN.{pos, _-ℤ_}
 use mir.Syntax.{w32}
 use Rattle.integer.proofs.Machine.{Reads, nat, minus, local, fits}
+use Rattle.terms.specs.Bounds.{maxPosition}
 use Rattle.exercise.specs.Evening.{futures}
 use Rattle.delivery.proofs.futures.Statement.{statement}
 use Rattle.delivery.proofs.futures.Tie as tie
 
 module _ (c : tie.Start) where
-  abbrev call : Reads 200000 (pos (c .args .exercised) -ℤ pos (c .args .assigned))
+  abbrev call : Reads (maxPosition + maxPosition) (pos (c .args .exercised) -ℤ pos (c .args .assigned))
   call = minus (nat w32 (c .pre .0) tt) (nat w32 (c .pre .1) tt)
 
-  abbrev put : Reads 200000 (pos (c .args .assigned) -ℤ pos (c .args .exercised))
+  abbrev put : Reads (maxPosition + maxPosition) (pos (c .args .assigned) -ℤ pos (c .args .exercised))
   put = minus (nat w32 (c .pre .1) tt) (nat w32 (c .pre .0) tt)
 
 returns : tie.Need-returns

@@ -1,17 +1,19 @@
 -- `delivery::shrunk` meets its contract. Assumes nothing.
 use borrow.Author.Needs.{needs}
+use Prim.Native.Nat.{_+_}
 use lib.IntN.{pos, _+ℤ_, _-ℤ_}
 use mir.Syntax.{w32}
 use Rattle.integer.proofs.Machine.{Reads, param, nat, plus, minus, local, fits}
+use Rattle.terms.specs.Bounds.{maxPosition}
 use Rattle.exercise.specs.Evening.{shrunk}
 use Rattle.delivery.proofs.shrunk.Statement.{statement}
 use Rattle.delivery.proofs.shrunk.Tie as tie
 
 module _ (c : tie.Start) where
-  abbrev less : Reads 200000 (c .args .position -ℤ pos (c .args .exercised))
+  abbrev less : Reads (maxPosition + maxPosition) (c .args .position -ℤ pos (c .args .exercised))
   less = minus (param w32 (c .pre .0) tt) (nat w32 (c .pre .1) tt)
 
-  abbrev left : Reads 300000 (c .args .position -ℤ pos (c .args .exercised) +ℤ pos (c .args .assigned))
+  abbrev left : Reads (maxPosition + maxPosition + maxPosition) (c .args .position -ℤ pos (c .args .exercised) +ℤ pos (c .args .assigned))
   left = plus (local w32 less tt) (nat w32 (c .pre .2) tt)
 
 cast-result : tie.Need-cast-result

@@ -3,7 +3,7 @@ use mathlib.Core.Path.{refl, ap}
 use mathlib.Core.Bool.{not}
 use borrow.Author.Tests.{lt-ltb, le-ltb}
 use Rattle.choice.proofs.Chain.{hit, past}
-use Rattle.value.proofs.Bounds.{option-value-bound}
+use Rattle.margin.proofs.Bounds.{option-value-bound}
 use borrow.Author.Needs.{needs}
 use Rattle.session_margin.proofs.revalue_series.Statement.{statement}
 use Rattle.session_margin.proofs.revalue_series.Tie as tie
@@ -19,19 +19,21 @@ value-requires-2 c κs = search needs
 
 revalue-requires : tie.Need-revalue-requires
 revalue-requires c κs =
-    let v = c .before .before in
+    let v = c .before .before .before in
     let b = v .before .before .before .before in
     let g = b .pre .1 in (
       b .pre .0,
-      b .pre .2,
-      g .opening .bounded,
-      rw (v .before .value .ensures) (option-value-bound _ _ (g .coefficient) (g .option)),
-      rw (v .value2 .ensures) (option-value-bound _ _ (g .coefficient) (g .price)),
+      record {
+        positions = b .pre .2;
+        opening = g .opening .bounded;
+        value = rw (v .before .value .ensures) (option-value-bound _ _ (g .coefficient) (g .option));
+        evening = rw (v .value2 .ensures) (option-value-bound _ _ (g .coefficient) (g .price));
+      },
     )
 
 returns-2 : tie.Need-returns-2
 returns-2 c =
-    let v = c .before .before .before in
+    let v = c .before .before .before .before in
     hit _ (ap not (le-ltb _ _ (v .before .before .if1 .left)))
     (rw (v .before .value .ensures, v .value2 .ensures) at (c .revalue .ensures))
 

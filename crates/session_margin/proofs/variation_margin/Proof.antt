@@ -1,79 +1,108 @@
--- `session_margin::variation_margin` meets its contract.
-use mathlib.Core.Path.{_≡_, sym, ap, _∙_}
-use mathlib.Core.List.{List}
-use Prim.Native.Nat.{ℕ}
-use native.Mathlib.Omega.{arith}
-use lib.IntN.{ℤ, pos}
-use lib.ListN.{getD}
-use Rattle.integer.proofs.Bounds.{bounded-table, within-le}
-use Rattle.integer.specs.Table.{at, table}
-use Rattle.integer.proofs.Table.{table-ext, getD-table}
-use Rattle.margin.specs.Margin.{tradedValue}
-use Rattle.margin.proofs.Cost.{traded-small}
-use Rattle.series.specs.Series.{positionOf}
-use Rattle.series.specs.declared.state.Series.{Series}
-use Rattle.terms.specs.Bounds.{accounts}
-use Rattle.book.specs.Sessions.{overLive, revaluedIn}
-use Rattle.book.specs.State.{noSeries, seriesAt}
-use Rattle.book.specs.declared.state.Book.{Book}
-use Rattle.book.proofs.Revaluation.{gains-small, gains-all}
-use Rattle.book.proofs.Trades.{coefficientsOf, margin-is, trades-within, coefficients-within}
+-- `session_margin::variation_margin` meets its contract: the first i series have their margin, the others what their trades cost.
 use borrow.Author.Needs.{needs}
+use mathlib.Core.Path.{ap, _∙_}
+use mathlib.Core.List.{List}
+use Prim.Native.Nat.{ℕ, _-_, _≤_, _<_}
+use native.Mathlib.Omega.{arith}
+use lib.ListN.{getD}
+use Rattle.margin.specs.BySeries.{bySeries}
+use Rattle.margin.specs.Margin.{tradesCost}
+use Rattle.margin.proofs.BySeries.{Holds}
+use Rattle.terms.specs.Bounds.{seriesRoom}
+use Rattle.book.proofs.Margins.{marginsBy, margins-start, costs-in, margins-next, margins-all}
+use Rattle.book.proofs.Trades.{trades-within, coefficients-within}
 use Rattle.session_margin.proofs.variation_margin.Statement.{statement}
 use Rattle.session_margin.proofs.variation_margin.Tie as tie
 
-abbrev start : tie.After-coefficients → tie.Start
-start c = c .before .before .before
+abbrev Inv-loop : tie.InvT-loop
+Inv-loop book after amounts₀ i₀ amounts i =
+    (i ≤ book .listed) × Holds amounts (marginsBy book after i)
 
--- what positions gain, and what trades cost
-abbrev gained : Book → List Series → ℕ → ℤ
-gained b after a = overLive b (λ i. revaluedIn (seriesAt b i) a (positionOf (getD after i noSeries) a))
+abbrev μ-loop : tie.MeasureT-loop
+μ-loop book after amounts₀ i₀ amounts i = book .listed - i
 
-abbrev cost : Book → ℕ → ℤ
-cost b = tradedValue (b .blotter) (b .trades) (coefficientsOf b)
+module _ (c : tie.In-loop Inv-loop μ-loop) where
+  abbrev start : tie.Start Inv-loop μ-loop
+  start = c .before .before .before .before .before
 
-costs : (c : tie.After-traded) → c .traded .result ≡ table accounts (cost (start (c .before) .args .book))
-costs c =
-    let b = start (c .before) .args .book in
-    c .traded .ensures ∙ ap (λ (l : List ℕ). table accounts (tradedValue (b .blotter) (b .trades) l)) (c .before .coefficients .ensures)
+  room : c .before .loop .i < seriesRoom
+  room = omega (arith, c .loop-test .taken, start .pre .0 .listed)
 
-revaluation-requires : tie.Need-revaluation-requires
-revaluation-requires c κs = search needs
+coefficients-requires : tie.Need-coefficients-requires Inv-loop μ-loop
+coefficients-requires c κs = c .before .pre .0
 
-coefficients-requires : tie.Need-coefficients-requires
-coefficients-requires c κs = search needs
-
-traded-requires : tie.Need-traded-requires
+traded-requires : tie.Need-traded-requires Inv-loop μ-loop
 traded-requires c κs =
-    let g = start c .pre .0 in
-    (g .trades, trades-within (start c .args .book) g, rw (c .coefficients .ensures) (coefficients-within (start c .args .book) g))
+    let b = c .before .before .args .t1 in
+    let g = c .before .before .pre .0 in
+    (g .trades, trades-within b g, rw (c .coefficients .ensures) (coefficients-within b g))
 
-less-requires : tie.Need-less-requires
-less-requires c κs =
-    let s = start (c .before) in
-    let b = s .args .book in
-    let after = s .args .after in
-    let g = s .pre .0 in (
-      rw (c .before .before .before .revaluation .ensures)
-          (bounded-table accounts (gained b after)
-          (λ a lt. within-le (rw (gains-all b after (g .listed) a) at (gains-small b g after (s .pre .1) (b .listed) a (g .listed))) (omega arith))),
-      rw (costs c)
-          (bounded-table accounts (cost b)
-          (λ a lt. within-le (traded-small (b .blotter) (coefficientsOf b) (b .trades) (g .trades) (trades-within b g) (coefficients-within b g) a) (omega arith))),
+loop-holds : tie.Need-loop-holds Inv-loop μ-loop
+loop-holds c =
+    let s = c .before .before .before in
+    let b = s .args .t1 in (
+      omega arith,
+      margins-start b (s .pre .0) (s .args .t2) _
+          (c .traded .ensures
+          ∙ ap (λ (l : List ℕ). bySeries (λ i a. tradesCost (b .blotter) (b .trades) i (getD l i 0) a)) (c .before .coefficients .ensures)),
     )
 
-returns : tie.Need-returns
+mul-s : tie.Need-mul-s Inv-loop μ-loop
+mul-s c = omega (arith, room c)
+
+element-copy-out-s : tie.Need-element-copy-out-s Inv-loop μ-loop
+element-copy-out-s c = room c
+
+mul-next : tie.Need-mul-next Inv-loop μ-loop
+mul-next c = omega (arith, room (c .before))
+
+array-copy-out-next : tie.Need-array-copy-out-next Inv-loop μ-loop
+array-copy-out-next c = room (c .before)
+
+revalue-series-requires : tie.Need-revalue-series-requires Inv-loop μ-loop
+revalue-series-requires c κs =
+    let l = c .before .before .before in
+    let s = start l in
+    let i = l .before .loop .i in (
+      costs-in (s .args .t1) (s .pre .0) (s .args .t2) (l .loop-test .taken) (l .before .loop .inv .1),
+      s .pre .0 .series i (room l),
+      s .pre .1 i (room l),
+    )
+
+add-i : tie.Need-add-i Inv-loop μ-loop
+add-i c = search needs
+
+loop-less : tie.Need-loop-less Inv-loop μ-loop
+loop-less c = search needs
+
+loop-again : tie.Need-loop-again Inv-loop μ-loop
+loop-again c =
+    let l = c .before .before .before .before in
+    let s = start l in (
+      omega (arith, l .loop-test .taken),
+      margins-next (s .args .t1) (s .pre .0) (s .args .t2) (l .loop-test .taken) (l .before .loop .inv .1) _ (c .revalue-series .ensures),
+    )
+
+returns : tie.Need-returns Inv-loop μ-loop
 returns c =
-    let s = start (c .before .before) in
-    let b = s .args .book in
-    let after = s .args .after in
-    c .less .ensures
-    ∙ rw (c .before .before .before .before .revaluation .ensures, costs (c .before))
-    (table-ext accounts _ _ (λ a lt.
-    rw (getD-table accounts (gained b after) a (pos 0) lt, getD-table accounts (cost b) a (pos 0) lt)
-    (sym (margin-is b (s .pre .0) a (λ i. positionOf (getD after i noSeries) a)))))
+    let s = c .before .before .before .before .before in
+    margins-all (s .args .t1) (s .pre .0) (s .args .t2) (omega (arith, c .loop-test .left)) (c .before .loop .inv .1)
 
 pub variation-margin-spec : {M : Type 1} → statement M
 variation-margin-spec =
     tie.close
-    (tie.spec revaluation-requires coefficients-requires traded-requires less-requires returns)
+    (tie.spec
+    Inv-loop
+    μ-loop
+    coefficients-requires
+    traded-requires
+    loop-holds
+    mul-s
+    element-copy-out-s
+    mul-next
+    array-copy-out-next
+    revalue-series-requires
+    add-i
+    loop-less
+    loop-again
+    returns)

@@ -1,45 +1,58 @@
 -- `sessions::evening` meets its contract: its tests are those of the verdict, and its work that of the session.
 use mathlib.Core.Path.{_≡_, ap, _∙_}
 use mathlib.Core.Bool.{false}
+use mathlib.Core.List.{List}
 use Prim.Native.Nat.{_+_}
-use native.Mathlib.Omega.{arith}
-use lib.IntN.{ℤ, pos, _-ℤ_}
+use lib.IntN.{ℤ, _-ℤ_}
 use Rattle.choice.proofs.Chain.{hit, past, tests}
-use Rattle.integer.proofs.Bounds.{bounded-table, bounded-le, within-le}
+use Rattle.integer.proofs.Bounds.{bounded-table}
 use Rattle.integer.specs.Table.{at, table}
-use Rattle.integer.proofs.Table.{table-ext, getD-table}
+use Rattle.margin.specs.BySeries.{cells, bySeries}
 use Rattle.terms.specs.Bounds.{accounts}
-use Rattle.book.specs.Sessions.{eveningMargin, eveningMoney, paidInto}
-use Rattle.book.specs.State.{noMoney}
+use Rattle.book.specs.Sessions.{eveningMarginIn, eveningMoney, paidInto}
+use Rattle.book.specs.State.{nonePaid, withDay, withAllSeries, withBlotter, withIntraday, withCash}
 use Rattle.book.specs.declared.state.Answer.the-variants.{Done}
 use Rattle.book.specs.declared.state.Event.the-variants.{Evening}
-use Rattle.book.proofs.Money.{evening-margin-within, evening-within, cash-bounded}
+use Rattle.book.proofs.Money.{evening-within, cash-bounded}
 use Rattle.book.proofs.Decided.{by-refusal, by-allowance, mark-missing, none-missing}
-use Rattle.book.proofs.SessionMoney.{settled-bounded, evening-is, paid-into}
+use Rattle.book.proofs.SessionMoney.{paidFor, settled-bounded, evening-is, evening-bounded, rest-bounded, evening-in-all, paid-into}
 use borrow.Author.Needs.{needs}
 use Rattle.sessions.proofs.evening.Statement.{statement}
 use Rattle.sessions.proofs.evening.Tie as tie
 
-abbrev start : tie.After-enum-told → tie.Start
-start c = c .before .before .before .before .before
+abbrev start : tie.After-settle-all → tie.Start
+start c = c .before .before .before .before .before .before
 
--- the margin and the money are the rule's
-margin : (c : tie.After-variation-margin) → c .variation-margin .result ≡ table accounts (eveningMargin (start (c .before .before) .args .book))
+-- ---- the margin, what is left of it, the money and the cash are the rule's
+margin : (c : tie.After-variation-margin) → c .variation-margin .result ≡ bySeries (paidFor (start (c .before) .args .book) (eveningMarginIn (start (c .before) .args .book)))
 margin c =
-    let s = start (c .before .before) in
+    let s = start (c .before) in
     c .variation-margin .ensures ∙ evening-is (s .args .book) (s .pre) _ (c .before .settle-all .ensures)
 
-money : (c : tie.After-less) → c .less .result ≡ table accounts (eveningMoney (start (c .before .before .before .before) .args .book))
-unfolding eveningMoney
-money c =
-    let k = start (c .before .before .before .before) .args .book in
-    c .less .ensures
-    ∙ rw (margin (c .before .before)) (table-ext accounts _ _ (λ a lt. ap (λ (z : ℤ). z -ℤ at (k .«intraday_paid») a) (getD-table accounts (eveningMargin k) a (pos 0) lt)))
+abbrev afterMargin : tie.After-less → tie.After-variation-margin
+afterMargin c = c .before .before
 
-cash : (c : tie.After-pay) → c .pay .result ≡ paidInto (start (c .before .before .before .before .before .before) .args .book .cash) (eveningMoney (start (c .before .before .before .before .before .before) .args .book))
+rest : (c : tie.After-less)
+    → c .less .result
+    ≡ table cells (λ k. at (bySeries (paidFor (start (afterMargin c .before) .args .book) (eveningMarginIn (start (afterMargin c .before) .args .book)))) k -ℤ at (start (afterMargin c .before) .args .book .«intraday_paid») k)
+rest c =
+    let b = start (afterMargin c .before) .args .book in
+    c .less .ensures ∙ ap (λ (l : List ℤ). table cells (λ k. at l k -ℤ at (b .«intraday_paid») k)) (margin (afterMargin c))
+
+abbrev startOf : tie.After-in-all → tie.Start
+startOf c = start (afterMargin (c .before .before) .before)
+
+money : (c : tie.After-in-all) → c .in-all .result ≡ table accounts (eveningMoney (startOf c .args .book))
+money c =
+    let s = startOf c in
+    c .in-all .ensures ∙ evening-in-all (s .args .book) (s .pre) _ (rest (c .before .before))
+
+cash : (c : tie.After-pay) → c .pay .result ≡ paidInto (startOf (c .before .before) .args .book .cash) (eveningMoney (startOf (c .before .before) .args .book))
 cash c =
-    let k = start (c .before .before .before .before .before .before) .args .book in
-    c .pay .ensures ∙ paid-into (k .cash) (eveningMoney k) _ (money (c .before .before))
+    let b = startOf (c .before .before) .args .book in
+    c .pay .ensures ∙ paid-into (b .cash) (eveningMoney b) _ (money (c .before .before))
+
+-- ---- what the code asks, in its order
 
 refused-requires : tie.Need-refused-requires
 refused-requires c κs = search needs
@@ -67,21 +80,24 @@ settle-all-requires c κs = search needs
 
 variation-margin-requires : tie.Need-variation-margin-requires
 variation-margin-requires c κs =
-    let s = start (c .before) in
+    let s = start c in
     (s .pre, settled-bounded (s .args .book) (s .pre) _ (c .settle-all .ensures))
 
 less-requires : tie.Need-less-requires
 less-requires c κs =
-    let s = start (c .before .before .before) in (
-      rw (margin (c .before)) (bounded-table accounts (eveningMargin (s .args .book)) (λ a lt. within-le (evening-margin-within (s .args .book) (s .pre) a) (omega arith))),
-      bounded-le (s .pre .paid) (omega arith),
-    )
+    let s = start (c .before .before) in
+    (rw (margin (c .before)) (evening-bounded (s .args .book) (s .pre)), s .pre .paid)
+
+in-all-requires : tie.Need-in-all-requires
+in-all-requires c κs =
+    let s = start (afterMargin (c .before) .before) in
+    rw (rest (c .before)) (rest-bounded (s .args .book) (s .pre))
 
 pay-requires : tie.Need-pay-requires
 pay-requires c κs =
-    let s = start (c .before .before .before .before .before) in (
+    let s = startOf (c .before) in (
       cash-bounded (s .args .book) (s .pre),
-      rw (money (c .before)) (bounded-table accounts (eveningMoney (s .args .book)) (λ a lt. within-le (evening-within (s .args .book) (s .pre) a) (omega arith))),
+      rw (money (c .before)) (bounded-table accounts (eveningMoney (s .args .book)) (evening-within (s .args .book) (s .pre))),
     )
 
 add-book : tie.Need-add-book
@@ -89,23 +105,15 @@ add-book c = search needs
 
 returns-3 : tie.Need-returns-3
 returns-3 c =
-    let l = c .before .before .before .before in
-    let s = start (l .before .before .before .before) in
-    let k = s .args .book in
+    let n = c .before .before .before .before in
+    let k = startOf n .args .book in
     by-allowance _ Evening
     (λ i. record {
       answer = Done;
-      money = money l i;
-      book = record {
-        day = k .day + 1;
-        listed = k .listed;
-        series = l .before .before .before .settle-all .ensures i;
-        blotter = k .blotter;
-        trades = 0;
-        «intraday_done» = false;
-        «intraday_paid» = noMoney;
-        cash = cash (c .before .before) i;
-      };
+      money = money n i;
+      book =
+          withDay (withCash (withIntraday (withBlotter (withAllSeries k (afterMargin (n .before .before) .before .settle-all .ensures i)) (k .blotter) 0) false nonePaid)
+          (cash (c .before .before) i)) (k .day + 1);
     })
     (past _ (search tests) (search none-missing))
 
@@ -123,6 +131,7 @@ evening-spec =
     settle-all-requires
     variation-margin-requires
     less-requires
+    in-all-requires
     pay-requires
     add-book
     returns-3)

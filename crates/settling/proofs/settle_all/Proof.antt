@@ -1,47 +1,46 @@
--- `settling::settle_all` meets its contract: the first i series are as the session leaves them, the others as they were.
+-- `settling::settle_all` meets its contract: the series are changed one by one.
 use borrow.Author.Needs.{needs}
-use mathlib.Core.Path.{_∙_}
-use Prim.Native.Nat.{ℕ, _-_, _≤_}
+use Prim.Native.Nat.{_-_, _<_}
 use native.Mathlib.Omega.{arith}
-use Rattle.choice.specs.Choice.{choose}
-use Rattle.integer.proofs.Table.{Updated, updated-start, updated-next, updated-rest}
 use Rattle.series.specs.Changes.{settled}
-use Rattle.series.specs.declared.state.Series.{Series}
-use Rattle.book.specs.State.{noSeries, seriesAt, live}
-use Rattle.book.specs.declared.state.Book.{Book}
-use Rattle.book.proofs.Live.{by-listed, by-unlisted}
+use Rattle.terms.specs.Bounds.{seriesRoom}
+use Rattle.settling.proofs.Changing.{Changing, changing-start, changing-room, changing-next, changing-all}
 use Rattle.settling.proofs.settle_all.Statement.{statement}
 use Rattle.settling.proofs.settle_all.Tie as tie
 
--- series j after the session
-abbrev after : Book → ℕ → Series
-after b j = choose (live b j) (settled (seriesAt b j) (b .day)) (seriesAt b j)
-
 abbrev Inv-loop : tie.InvT-loop
-Inv-loop book out₀ i₀ out i = (i ≤ book .listed) × Updated 8 i out (book .series) noSeries (after book)
+Inv-loop book out₀ i₀ out i = Changing book (λ s. settled s (book .day)) i out
 
 abbrev μ-loop : tie.MeasureT-loop
 μ-loop book out₀ i₀ out i = book .listed - i
 
+module _ (c : tie.In-loop Inv-loop μ-loop) where
+  abbrev start : tie.Start Inv-loop μ-loop
+  start = c .before .before .before
+
+  room : c .before .loop .i < seriesRoom
+  room = let b = start .args .t1 in changing-room b (start .pre .0) (λ s. settled s (b .day)) (c .loop-test .taken)
+
 loop-holds : tie.Need-loop-holds Inv-loop μ-loop
-loop-holds c = (omega arith, updated-start (c .before .args .t1 .series) noSeries (after (c .before .args .t1)) (c .before .pre .0 .series-long))
+loop-holds c = let b = c .before .args .t1 in changing-start b (c .before .pre .0) (λ s. settled s (b .day))
 
 mul-s : tie.Need-mul-s Inv-loop μ-loop
-mul-s c = omega (arith, c .before .before .before .pre .0 .listed)
+mul-s c = omega (arith, room c)
 
 element-copy-out-s : tie.Need-element-copy-out-s Inv-loop μ-loop
-element-copy-out-s c = omega (arith, c .before .before .before .pre .0 .listed)
+element-copy-out-s c = room c
 
 after-evening-requires : tie.Need-after-evening-requires Inv-loop μ-loop
 after-evening-requires c κs =
     let l = c .before in
-    (l .before .before .before .pre .0 .series (l .before .loop .i) (omega (arith, l .loop-test .taken, l .before .before .before .pre .0 .listed)), l .before .before .before .pre .1)
+    let s = start l in
+    (s .pre .0 .series (l .before .loop .i) (room l), s .pre .1)
 
 mul-out : tie.Need-mul-out Inv-loop μ-loop
-mul-out c = omega (arith, c .before .before .loop-test .taken, c .before .before .before .before .before .pre .0 .listed)
+mul-out c = omega (arith, room (c .before .before))
 
 array-set-from-out : tie.Need-array-set-from-out Inv-loop μ-loop
-array-set-from-out c = omega (arith, c .before .before .loop-test .taken, c .before .before .before .before .before .pre .0 .listed)
+array-set-from-out c = room (c .before .before)
 
 add-i : tie.Need-add-i Inv-loop μ-loop
 add-i c = search needs
@@ -52,17 +51,14 @@ loop-less c = search needs
 loop-again : tie.Need-loop-again Inv-loop μ-loop
 loop-again c =
     let l = c .before .before in
-    let b = l .before .before .before .args .t1 in
-    let i = l .before .loop .i in (
-      omega (arith, l .loop-test .taken),
-      updated-next (l .before .loop .inv .1) (omega (arith, l .loop-test .taken, l .before .before .before .pre .0 .listed)) _
-          (c .after-evening .ensures ∙ by-listed b i _ _ (l .loop-test .taken)),
-    )
+    let b = start l .args .t1 in
+    changing-next b (start l .pre .0) (λ s. settled s (b .day)) (l .before .loop .inv) (l .loop-test .taken) _ (c .after-evening .ensures)
 
 returns : tie.Need-returns Inv-loop μ-loop
 returns c =
-    let b = c .before .before .before .args .t1 in
-    updated-rest (c .before .loop .inv .1) (λ k above lt. by-unlisted b k _ _ (omega (arith, c .loop-test .left)))
+    let s = c .before .before .before in
+    let b = s .args .t1 in
+    changing-all b (s .pre .0) (λ s. settled s (b .day)) (c .before .loop .inv) (omega (arith, c .loop-test .left))
 
 pub settle-all-spec : {M : Type 1} → statement M
 settle-all-spec =

@@ -2,25 +2,21 @@
 use borrow.Author.Needs.{needs}
 use Prim.Native.Nat.{_-_, _≤_}
 use native.Mathlib.Omega.{arith}
-use lib.IntN.{ℤ, pos, _+ℤ_}
+use lib.IntN.{pos, _+ℤ_}
 use mir.Syntax.{w32}
-use Rattle.integer.proofs.Machine.{Reads, param, plus, local, fits}
+use Rattle.integer.proofs.Machine.{fits}
 use Rattle.integer.specs.Table.{at}
-use Rattle.integer.proofs.Table.{Filled, filled-start, filled-next, filled-all}
+use Rattle.integer.proofs.Table.{Filled, filled-start, filled-all}
+use Rattle.exercise.specs.Places.{places}
+use Rattle.margin.proofs.Combined.{sum-at, sum-next}
 use Rattle.settling.proofs.expiry.grown.Statement.{statement}
 use Rattle.settling.proofs.expiry.grown.Tie as tie
 
 abbrev Inv-loop : tie.InvT-loop
-Inv-loop futures arisen out₀ place₀ out place = (place ≤ 64) × Filled 64 place out (pos 0) (λ k. at futures k +ℤ at arisen k)
+Inv-loop futures arisen out₀ place₀ out place = (place ≤ places) × Filled places place out (pos 0) (λ k. at futures k +ℤ at arisen k)
 
 abbrev μ-loop : tie.MeasureT-loop
-μ-loop futures arisen out₀ place₀ out place = 64 - place
-
-module _ (c : tie.In-loop Inv-loop μ-loop) where
-  abbrev result : Reads 100100000 (at (c .before .before .args .t1) (c .before .loop .place) +ℤ at (c .before .before .args .t2) (c .before .loop .place))
-  result =
-      plus (param w32 (c .before .before .pre .0 .each (c .before .loop .place)) tt)
-      (param w32 (c .before .before .pre .1 .each (c .before .loop .place)) tt)
+μ-loop futures arisen out₀ place₀ out place = places - place
 
 loop-holds : tie.Need-loop-holds Inv-loop μ-loop
 loop-holds c = (omega arith, filled-start _ (pos 0) _ (search needs))
@@ -38,7 +34,9 @@ array-copy-out-out-2 : tie.Need-array-copy-out-out-2 Inv-loop μ-loop
 array-copy-out-out-2 c = search needs
 
 add-out : tie.Need-add-out Inv-loop μ-loop
-add-out c = fits w32 (result (c .before .before)) tt
+add-out c =
+    let s = c .before .before .before .before in
+    fits w32 (sum-at w32 (s .pre .0) (s .pre .1) tt tt tt (c .before .before .before .loop .place)) tt
 
 mul-out-3 : tie.Need-mul-out-3 Inv-loop μ-loop
 mul-out-3 c = search needs
@@ -55,7 +53,8 @@ loop-less c = search needs
 loop-again : tie.Need-loop-again Inv-loop μ-loop
 loop-again c =
     let l = c .before .before in
-    (omega arith, filled-next (l .before .loop .inv .1) (omega arith) _ (local w32 (result l) tt .is))
+    let s = l .before .before in
+    (omega arith, sum-next w32 (s .pre .0) (s .pre .1) tt tt tt (l .before .loop .place) (l .before .loop .inv .1) (omega arith))
 
 returns : tie.Need-returns Inv-loop μ-loop
 returns c = filled-all (c .before .loop .inv .1) (omega arith)

@@ -6,6 +6,7 @@ use mathlib.Core.Bool.{false}
 use Rattle.exercise.specs.Places.{places}
 use Rattle.exercise.specs.declared.types.Outcome.{Outcome}
 use Rattle.integer.proofs.Bounds.{bounded-le}
+use Rattle.series.specs.Series.{withMark, withRequests, withEvening}
 use Rattle.settling.proofs.Settling.{closed, futures-grown, new-futures-bounded}
 use borrow.Author.Needs.{needs}
 use Rattle.settling.proofs.expiry.settle.Statement.{statement}
@@ -38,16 +39,8 @@ returns c =
     let s = b .args .s in
     let day = b .args .day in
     let positions = c .before .before .before .closing .ensures ∙ closed s day _ (ap (λ (o : Outcome). o .positions) (e .evening .ensures)) in
-    λ i. record {
-      listing = s .listing;
-      mark = c .before .no-mark .ensures i;
-      «evening_price» = s .mark .option;
-      positions = positions i;
-      opening = positions i;
-      requests = replicate places 0;
-      declined = replicate places false;
-      futures = (c .grown .ensures ∙ futures-grown s day _ (ap (λ (o : Outcome). o .futures) (e .evening .ensures))) i;
-    }
+    let futures = c .grown .ensures ∙ futures-grown s day _ (ap (λ (o : Outcome). o .futures) (e .evening .ensures)) in
+    λ i. withEvening (withRequests (withMark s (c .before .no-mark .ensures i)) (replicate places 0) (replicate places false)) (s .mark .option) (positions i) (futures i)
 
 pub settle-spec : {M : Type 1} → statement M
 settle-spec =

@@ -1,4 +1,4 @@
--- `delivery::settled` meets its contract: the places passed have their numbers. Assumes nothing.
+-- `delivery::by_place` meets its contract: the places passed have their numbers. Assumes nothing.
 use borrow.Author.Needs.{needs}
 use mathlib.Core.Path.{refl, ap, _∙_}
 use Prim.Native.Nat.{_≤_, _-_}
@@ -12,8 +12,8 @@ use Rattle.integer.specs.Table.{at}
 use Rattle.integer.proofs.Table.{Filled, filled-start, filled-next, filled-all}
 use Rattle.exercise.specs.Places.{places, amount}
 use Rattle.exercise.specs.Evening.{shrunk, futures}
-use Rattle.delivery.proofs.settled.Statement.{statement}
-use Rattle.delivery.proofs.settled.Tie as tie
+use Rattle.delivery.proofs.by_place.Statement.{statement}
+use Rattle.delivery.proofs.by_place.Tie as tie
 
 abbrev Inv-loop : tie.InvT-loop
 Inv-loop option positions exercised assigned remaining₀ arisen₀ place₀ remaining arisen place =
@@ -23,6 +23,8 @@ Inv-loop option positions exercised assigned remaining₀ arisen₀ place₀ rem
 
 abbrev μ-loop : tie.MeasureT-loop
 μ-loop option positions exercised assigned remaining₀ arisen₀ place₀ remaining arisen place = places - place
+
+-- ---- what the code asks, in its order
 
 loop-holds : tie.Need-loop-holds Inv-loop μ-loop
 loop-holds c = (omega arith, filled-start _ (pos 0) _ refl, filled-start _ (pos 0) _ refl)
@@ -102,8 +104,8 @@ loop-again c =
 returns : tie.Need-returns Inv-loop μ-loop
 returns c = λ i. record { positions = filled-all (c .before .loop .inv .1) (omega arith) i; futures = filled-all (c .before .loop .inv .2) (omega arith) i }
 
-pub settled-spec : {M : Type 1} → statement M
-settled-spec =
+pub by-place-spec : {M : Type 1} → statement M
+by-place-spec =
     tie.close
     (tie.spec
     Inv-loop
