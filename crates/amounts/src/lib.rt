@@ -1,5 +1,5 @@
 // Money in kopecks: by series and account, series i, account a at i * ACCOUNTS + a; and of all accounts.
-use exercise::types::PLACES;
+use places::PLACES;
 use terms::bounds::ACCOUNTS;
 use terms::bounds::SERIES;
 ghost use mathlib.Core.Path.{_≡_};

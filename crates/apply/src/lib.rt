@@ -1,7 +1,7 @@
 // What an effect leaves of a series and of the blotter. The arrays are changed in place.
 use book::state::Answer;
 use book::state::Effect;
-use exercise::types::PLACES;
+use places::PLACES;
 use margin::trade::Trade;
 use requests::change::decline;
 use requests::change::request;

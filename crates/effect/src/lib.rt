@@ -2,7 +2,7 @@
 use book::state::Effect;
 use book::state::Event;
 use book::state::Today;
-use exercise::types::PLACES;
+use places::PLACES;
 use marking::effect::mark;
 use requests::effect::decline;
 use requests::effect::exercise;

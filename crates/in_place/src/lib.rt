@@ -5,7 +5,7 @@ use apply::entry;
 use book::state::Change;
 use book::state::Event;
 use book::state::Today;
-use exercise::types::PLACES;
+use places::PLACES;
 use margin::trade::Trade;
 use series::state::Listing;
 use series::state::Mark;

@@ -1,5 +1,5 @@
 // The series that a listing begins.
-use exercise::types::PLACES;
+use places::PLACES;
 use marking::change::no_mark;
 use series::state::Listing;
 use series::state::Series;

@@ -1,5 +1,5 @@
 // The requests and declines of a series, in place.
-use exercise::types::PLACES;
+use places::PLACES;
 ghost use mathlib.Core.Path.{_≡_};
 ghost use Prim.Native.Nat.{_<_};
 ghost use lib.ListN.{set};

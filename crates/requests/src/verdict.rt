@@ -1,6 +1,6 @@
 // The conditions, tested in the order of the refusals' numbers.
 use book::state::Today;
-use exercise::types::PLACES;
+use places::PLACES;
 use holders::held;
 use series::event::Request;
 use series::event::Waiver;

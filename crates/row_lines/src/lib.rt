@@ -1,7 +1,7 @@
 // The lines of a row that is an event. Each function puts its text at a place of the buffer and returns the place after it.
 use book::state::Answer;
 use book::state::Step;
-use exercise::types::PLACES;
+use places::PLACES;
 use series::state::Series;
 use terms::bounds::ACCOUNTS;
 use terms::bounds::SERIES;

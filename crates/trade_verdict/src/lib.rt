@@ -1,6 +1,6 @@
 // Whether a trade may be made: the conditions, tested in the order of the refusals' numbers.
 use book::state::Today;
-use exercise::types::PLACES;
+use places::PLACES;
 use series::event::Deal;
 use series::refusal::Refusal;
 use series::refusal::Verdict;

@@ -1,5 +1,5 @@
 // The positions of a series, in place.
-use exercise::types::PLACES;
+use places::PLACES;
 use margin::trade::Trade;
 ghost use mathlib.Core.Path.{_≡_};
 ghost use Rattle.integer.specs.Bounds.{Bounded};

@@ -1,6 +1,6 @@
 use book::state::Effect;
 use book::state::Today;
-use exercise::types::PLACES;
+use places::PLACES;
 use margin::trade::Trade;
 use series::event::Deal;
 use series::refusal::Verdict;

@@ -10,7 +10,7 @@ use Rattle.decimal.specs.Put.{Put}
 use Rattle.integer.specs.Table.{at}
 use Rattle.integer.proofs.Machine.{Reads, any, minus, local, fits}
 use Rattle.terms.specs.Bounds.{accounts}
-use Rattle.exercise.specs.Places.{places}
+use Rattle.places.specs.Places.{places}
 use Rattle.report.specs.Report.{arisen, futuresLine, seriesLines}
 use Rattle.report.specs.Lines.{lineRoom, joined}
 use Rattle.report.proofs.Fields.{text-of}
