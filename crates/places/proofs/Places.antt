@@ -6,6 +6,8 @@ use native.Mathlib.Omega.{arith}
 use lib.IntN.{ℤ, pos, _+ℤ_, _-ℤ_, +ℤ-idl}
 use Rattle.integer.specs.Bounds.{Within}
 use Rattle.integer.specs.Sum.{sumTo}
+use Rattle.integer.specs.Table.{at, table}
+use Rattle.integer.proofs.Table.{getD-table}
 use Rattle.integer.proofs.Sum.{sum-ext, sum-0, sum-add, sum-sub, sum-abs}
 use Rattle.terms.specs.Bounds.{accounts}
 use Rattle.places.specs.Places.{sections, places, placeIn, placeOf, accountOf, ofAccount}
@@ -66,6 +68,10 @@ sum-by-account f = sym (sum-among sections accounts f)
 pub of-account-ext : (f g : ℕ → ℤ) → ((k : ℕ) → k < places → f k ≡ g k) → (a : ℕ) → a < accounts → ofAccount f a ≡ ofAccount g a
 unfolding ofAccount
 of-account-ext f g h a la = sum-ext sections _ _ (λ s ls. h _ (among-within sections accounts a s la ls))
+
+-- of an array that is a table
+pub of-account-table : (f : ℕ → ℤ) (a : ℕ) → a < accounts → ofAccount (at (table places f)) a ≡ ofAccount f a
+of-account-table f a la = of-account-ext (at (table places f)) f (λ k lt. getD-table places f k (pos 0) lt) a la
 
 pub of-account-none : (f : ℕ → ℤ) → ((k : ℕ) → f k ≡ pos 0) → (a : ℕ) → ofAccount f a ≡ pos 0
 unfolding ofAccount
