@@ -1,7 +1,7 @@
 // One series after an evening: exercise, then expiry.
 use exercise::types::Fixing;
-use places::PLACES;
 use marking::change::no_mark;
+use places::PLACES;
 use series::state::Series;
 ghost use mathlib.Core.Path.{_≡_};
 ghost use Prim.Native.Nat.{_≤_, _<_};

@@ -3,8 +3,8 @@ pub mod sum;
 
 use crate::sum::total;
 use crate::sum::wide;
-use places::PLACES;
 use exercise::types::Shares;
+use places::PLACES;
 ghost use mathlib.Core.Path.{_≡_};
 ghost use Prim.Native.Nat.{_≤_, _<_, _^_};
 ghost use Rattle.integer.specs.Bounds.{Bounded};
