@@ -3,16 +3,16 @@ use mathlib.Core.Path.{_≡_, refl, sym, ap, _∙_}
 use mathlib.Core.Logic.{_≢_}
 use Prim.Native.Nat.{ℕ, _*_, _<_}
 use native.Mathlib.Omega.{arith}
-use lib.IntN.{ℤ, pos, _+ℤ_, _-ℤ_, +ℤ-idl}
+use lib.IntN.{ℤ, pos, _+ℤ_, +ℤ-idl}
 use Rattle.integer.specs.Bounds.{Within}
 use Rattle.integer.specs.Sum.{sumTo}
 use Rattle.integer.specs.Table.{at, table}
 use Rattle.integer.proofs.Table.{getD-table}
-use Rattle.integer.proofs.Sum.{sum-ext, sum-0, sum-add, sum-sub, sum-abs}
+use Rattle.integer.proofs.Sum.{sum-ext, sum-add, sum-abs}
 use Rattle.terms.specs.Bounds.{accounts}
-use Rattle.places.specs.Places.{sections, places, placeIn, placeOf, accountOf, ofAccount}
+use Rattle.places.specs.Places.{sections, places, placeIn, placeOf, accountOf, sectionOf, ofAccount}
 use Rattle.places.specs.Sections.{sumAmong}
-use Rattle.places.proofs.Sections.{among-within, among-account, among-section, among-account-order, among-section-order, account-among, account-among-within, sum-among}
+use Rattle.places.proofs.Sections.{among-within, among-account, among-section, among-account-order, among-section-order, account-among, among-back, account-among-within, section-among-within, sum-among}
 
 -- ---- where places are
 pub place-within : (a s : ℕ) → a < accounts → s < sections → placeIn a s < places
@@ -50,9 +50,17 @@ pub account-of-place : (a s : ℕ) → s < sections → accountOf (placeIn a s) 
 unfolding accountOf placeIn
 account-of-place a s ls = account-among sections a s ls
 
+pub place-back : (k : ℕ) → placeIn (accountOf k) (sectionOf k) ≡ k
+unfolding placeIn accountOf sectionOf
+place-back k = among-back sections k
+
 pub account-of-within : {k : ℕ} → k < places → accountOf k < accounts
 unfolding accountOf
 account-of-within {k} lt = account-among-within sections accounts k (omega arith) lt
+
+pub section-of-within : (k : ℕ) → sectionOf k < sections
+unfolding sectionOf
+section-of-within k = section-among-within sections k (omega arith)
 
 -- ---- an account's sum over its places
 -- section by section, as a loop has it
@@ -73,17 +81,9 @@ of-account-ext f g h a la = sum-ext sections _ _ (λ s ls. h _ (among-within sec
 pub of-account-table : (f : ℕ → ℤ) (a : ℕ) → a < accounts → ofAccount (at (table places f)) a ≡ ofAccount f a
 of-account-table f a la = of-account-ext (at (table places f)) f (λ k lt. getD-table places f k (pos 0) lt) a la
 
-pub of-account-none : (f : ℕ → ℤ) → ((k : ℕ) → f k ≡ pos 0) → (a : ℕ) → ofAccount f a ≡ pos 0
-unfolding ofAccount
-of-account-none f h a = sum-ext sections _ (λ s. pos 0) (λ s ls. h _) ∙ sum-0 sections
-
 pub of-account-add : (f g : ℕ → ℤ) (a : ℕ) → ofAccount (λ k. f k +ℤ g k) a ≡ ofAccount f a +ℤ ofAccount g a
 unfolding ofAccount
 of-account-add f g a = sum-add sections _ _
-
-pub of-account-sub : (f g : ℕ → ℤ) (a : ℕ) → ofAccount (λ k. f k -ℤ g k) a ≡ ofAccount f a -ℤ ofAccount g a
-unfolding ofAccount
-of-account-sub f g a = sum-sub sections _ _
 
 pub of-account-within : {B : ℕ} (f : ℕ → ℤ) → ((k : ℕ) → Within B (f k)) → (a : ℕ) → Within (sections * B) (ofAccount f a)
 unfolding ofAccount

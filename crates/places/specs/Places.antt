@@ -6,7 +6,7 @@ use Prim.Native.Nat.{ℕ, _*_}
 use lib.IntN.{ℤ}
 use lib.ListN.{getD}
 use Rattle.terms.specs.Bounds.{accounts}
-use Rattle.places.specs.Sections.{placeAmong, accountAmong, sumAmong}
+use Rattle.places.specs.Sections.{placeAmong, accountAmong, sectionAmong, sumAmong}
 
 -- 01, "Exercise": "an account is a single section here"
 abbrev pub sections : ℕ
@@ -23,9 +23,12 @@ placeIn account section = placeAmong sections account section
 unfoldable pub placeOf : ℕ → ℕ
 placeOf account = placeIn account 0
 
--- the account that a place is of
+-- the account that a place is of, and the section of it
 unfoldable pub accountOf : ℕ → ℕ
 accountOf place = accountAmong sections place
+
+unfoldable pub sectionOf : ℕ → ℕ
+sectionOf place = sectionAmong sections place
 
 -- an account's sum over its places
 unfoldable pub ofAccount : (ℕ → ℤ) → ℕ → ℤ
