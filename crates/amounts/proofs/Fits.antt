@@ -2,7 +2,7 @@
 -- are is what the contracts say.
 use Prim.Native.Nat.{ℕ, _+_, _≤_}
 use lib.IntN.{ℤ, pos, _-ℤ_, _*ℤ_}
-use mir.Syntax.{w32, w64}
+use mir.Syntax.{w64}
 use mir.Val.{SFits, toZ, ofZ}
 use Rattle.integer.specs.Bounds.{Within}
 use Rattle.integer.proofs.Machine.{Reads, param, nat, minus, times, local, fits}
@@ -13,13 +13,13 @@ use Rattle.terms.specs.Bounds.{maxPosition}
 abbrev kept : ℤ → ℤ
 kept x = toZ w64 (ofZ w64 x)
 
--- a position, read from 32 bits, times the value of a price
+-- a position times the value of a price
 abbrev worth : ℤ → ℕ → ℤ
-worth n v = kept (toZ w32 (ofZ w32 n)) *ℤ toZ w64 v
+worth n v = kept n *ℤ toZ w64 v
 
 module _ {n : ℤ} {v : ℕ} (h : Within maxPosition n) (k : v ≤ maxValue) where
   abbrev pub worth-read : Reads maxWorth (n *ℤ pos v)
-  worth-read = times (local w64 (param w32 h tt) tt) (nat w64 k tt)
+  worth-read = times (param w64 h tt) (nat w64 k tt)
 
   pub worth-fits : SFits w64 (worth n v)
   worth-fits = fits w64 worth-read tt

@@ -1,5 +1,5 @@
 // Money in kopecks: by series and account, series i, account a at i * ACCOUNTS + a; and of all accounts.
-use exercise::types::PLACES;
+use places::PLACES;
 use terms::bounds::ACCOUNTS;
 use terms::bounds::SERIES;
 ghost use mathlib.Core.Path.{_≡_};
@@ -8,6 +8,7 @@ ghost use Prim.Native.Nat.{_<_, _*_};
 ghost use Rattle.integer.specs.Bounds.{Bounded};
 ghost use Rattle.integer.specs.Sum.{sumTo};
 ghost use Rattle.integer.specs.Table.{at, table};
+ghost use Rattle.places.specs.Places.{ofAccount};
 ghost use Rattle.terms.specs.Bounds.{accounts, seriesRoom};
 ghost use Rattle.margin.specs.Bounds.{mostInASeries, mostInADay, maxCash};
 ghost use Rattle.margin.specs.BySeries.{cell, cells, inSeries, inAll};
@@ -24,13 +25,13 @@ pub fn revalue(
     evening_value: u64,
 )
     requires { ⌜ (CostsIn series (now amounts)) × (Revaluable positions opening «price_value» «evening_value») ⌝ }
-    ensures { λ r. ⌜ now (amounts .exit) ≡ inSeries series (λ a cost. at positions a *ℤ pos «price_value» -ℤ at opening a *ℤ pos «evening_value» -ℤ cost) (now (amounts .entry)) ⌝ }
+    ensures { λ r. ⌜ now (amounts .exit) ≡ inSeries series (λ a cost. ofAccount (at positions) a *ℤ pos «price_value» -ℤ ofAccount (at opening) a *ℤ pos «evening_value» -ℤ cost) (now (amounts .entry)) ⌝ }
 {
     let first = series * ACCOUNTS;
     let mut a: usize = 0;
     while a < ACCOUNTS {
-        let n = positions[a] as i64;
-        let b = opening[a] as i64;
+        let n = account_places::of_account(&positions, a);
+        let b = account_places::of_account(&opening, a);
         let gain = n * price_value as i64 - b * evening_value as i64;
         amounts[first + a] = gain - amounts[first + a];
         a += 1;

@@ -1,8 +1,8 @@
 // What an effect leaves of a series and of the blotter. The arrays are changed in place.
 use book::state::Answer;
 use book::state::Effect;
-use exercise::types::PLACES;
 use margin::trade::Trade;
+use places::PLACES;
 use requests::change::decline;
 use requests::change::request;
 use series::state::Mark;

@@ -18,7 +18,8 @@ use Rattle.margin.specs.BySeries.{cell, cells, bySeries, inSeries}
 use Rattle.margin.specs.Margin.{tradesCost, marginOf, CostsIn}
 use Rattle.margin.proofs.BySeries.{Holds, holds-table, is-by-series, at-in-series}
 use Rattle.margin.proofs.Cost.{trades-small}
-use Rattle.series.specs.Series.{expired, placeOf, positionOf}
+use Rattle.places.specs.Places.{ofAccount}
+use Rattle.series.specs.Series.{expired, positionOf}
 use Rattle.series.specs.declared.state.Series.{Series}
 use Rattle.terms.specs.Bounds.{accounts, seriesRoom}
 use Rattle.book.specs.Good.{Good}
@@ -36,7 +37,7 @@ marginBy b after i a = choose (live b i) (marginIn b i a (seriesAt b i .mark .op
 
 -- a series' margin, in the place of what its trades cost
 abbrev pub marginFrom : Series → Series → ℕ → ℤ → ℤ
-marginFrom s next a cost = marginOf (s .mark .coefficient) (positionOf next a) (s .mark .option) (at (s .opening) (placeOf a)) (s .«evening_price») cost
+marginFrom s next a cost = marginOf (s .mark .coefficient) (positionOf next a) (s .mark .option) (ofAccount (at (s .opening)) a) (s .«evening_price») cost
 
 -- the first i series have their margin, the others what their trades cost
 abbrev pub marginsBy : Book → List Series → ℕ → ℕ → ℕ → ℤ

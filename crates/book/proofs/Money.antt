@@ -10,10 +10,13 @@ use Rattle.integer.proofs.Bounds.{within-le, within-add, within-sub, within-sum
 use Rattle.integer.proofs.Ring.{split, ring, ⊖-eq}
 use Rattle.integer.specs.Sum.{sumTo}
 use Rattle.integer.proofs.Sum.{sum-0, sum-ext, sum-sub, sum-swap}
+use Rattle.integer.specs.Table.{at}
 use Rattle.margin.specs.Bounds.{mostInASeries, mostInADay, maxCash}
 use Rattle.margin.specs.Margin.{costIn}
 use Rattle.margin.proofs.Cost.{costIn-balances, trades-small, traded-small}
 use Rattle.terms.specs.Bounds.{accounts, seriesRoom, maxOptionPrice, maxPosition}
+use Rattle.places.specs.Places.{ofAccount}
+use Rattle.places.proofs.Places.{sum-by-account, of-account-within}
 use Rattle.series.specs.Changes.{closing}
 use Rattle.series.proofs.Keeps.{closing-within, closing-balances}
 use Rattle.book.specs.Good.{Good}
@@ -88,16 +91,17 @@ module _ (b : Book) (g : Good b) where
   -- ---- the intraday session
   pub intraday-small : (i a : ℕ) → i < seriesRoom → Within mostInASeries (intradayMoneyIn b i a)
   unfolding intradayMoneyIn
-  intraday-small i a lt = margin-small i a _ _ lt (g .series i lt .option) (g .series i lt .positions .bounded .each a)
+  intraday-small i a lt = margin-small i a _ _ lt (g .series i lt .option) (of-account-within _ (g .series i lt .positions .bounded .each) a)
 
   pub intraday-balances-in : (i : ℕ) → i < seriesRoom → sumTo accounts (intradayMoneyIn b i) ≡ pos 0
   unfolding intradayMoneyIn
-  intraday-balances-in i lt = margin-balances i _ (position b i) lt (g .series i lt .positions .balance)
+  intraday-balances-in i lt = margin-balances i _ (position b i) lt (sum-by-account (at (seriesAt b i .positions)) ∙ g .series i lt .positions .balance)
 
   pub intraday-within : (a : ℕ) → Within mostInADay (intradayMoney b a)
   unfolding intradayMoney intradayMoneyIn
   intraday-within a =
-      margin-within a (λ i. seriesAt b i .mark .option) (λ i. position b i a) (λ i lt. g .series i lt .option) (λ i lt. g .series i lt .positions .bounded .each a)
+      margin-within a (λ i. seriesAt b i .mark .option) (λ i. position b i a) (λ i lt. g .series i lt .option)
+      (λ i lt. of-account-within _ (g .series i lt .positions .bounded .each) a)
 
   pub intraday-balances : sumTo accounts (intradayMoney b) ≡ pos 0
   unfolding intradayMoney
@@ -106,12 +110,13 @@ module _ (b : Book) (g : Good b) where
   -- ---- the evening session
   pub evening-margin-small : (i a : ℕ) → i < seriesRoom → Within mostInASeries (eveningMarginIn b i a)
   unfolding eveningMarginIn
-  evening-margin-small i a lt = margin-small i a _ _ lt (g .series i lt .option) (closing-within (b .day) (seriesAt b i) (g .series i lt) a)
+  evening-margin-small i a lt = margin-small i a _ _ lt (g .series i lt .option) (of-account-within _ (closing-within (b .day) (seriesAt b i) (g .series i lt)) a)
 
   pub evening-margin-balances : (i : ℕ) → i < seriesRoom → sumTo accounts (eveningMarginIn b i) ≡ pos 0
   unfolding eveningMarginIn
   evening-margin-balances i lt =
-      margin-balances i (seriesAt b i .mark .option) (λ a. closing (seriesAt b i) (b .day) a) lt (closing-balances (b .day) (seriesAt b i) (g .series i lt))
+      margin-balances i (seriesAt b i .mark .option) (ofAccount (closing (seriesAt b i) (b .day))) lt
+      (sum-by-account (closing (seriesAt b i) (b .day)) ∙ closing-balances (b .day) (seriesAt b i) (g .series i lt))
 
   pub evening-balances-in : (i : ℕ) → i < seriesRoom → sumTo accounts (eveningMoneyIn b i) ≡ pos 0
   unfolding eveningMoneyIn
@@ -125,8 +130,8 @@ module _ (b : Book) (g : Good b) where
   pub evening-margin-within : (a : ℕ) → Within mostInADay (eveningMargin b a)
   unfolding eveningMargin eveningMarginIn
   evening-margin-within a =
-      margin-within a (λ i. seriesAt b i .mark .option) (λ i. closing (seriesAt b i) (b .day) a) (λ i lt. g .series i lt .option)
-      (λ i lt. closing-within (b .day) (seriesAt b i) (g .series i lt) a)
+      margin-within a (λ i. seriesAt b i .mark .option) (λ i. ofAccount (closing (seriesAt b i) (b .day)) a) (λ i lt. g .series i lt .option)
+      (λ i lt. of-account-within _ (closing-within (b .day) (seriesAt b i) (g .series i lt)) a)
 
   -- VM − VM1 of all series
   pub evening-is-rest : (a : ℕ) → a < accounts → eveningMoney b a ≡ eveningMargin b a -ℤ paidToday b a

@@ -14,6 +14,7 @@ use Rattle.integer.proofs.Table.{table-ext, getD-table}
 use Rattle.margin.specs.Bounds.{mostInASeries}
 use Rattle.margin.specs.BySeries.{cell, cells, bySeries, inAll}
 use Rattle.margin.proofs.BySeries.{cell-below, at-by-series, by-series-ext, bounded-by-series}
+use Rattle.places.proofs.Places.{of-account-table}
 use Rattle.series.specs.Changes.{unmarked, settled, closing}
 use Rattle.series.specs.Series.{positionOf}
 use Rattle.series.specs.declared.state.Series.{Series}
@@ -75,7 +76,7 @@ module _ (b : Book) (good : Good b) where
         by-series-ext _ _ (λ i a room lt. paid-live (live b i) _ _ (λ t.
         ap (λ (s : Series). marginIn b i a (seriesAt b i .mark .option) (positionOf s a))
         (ap (λ (l : List Series). getD l i noSeries) e ∙ changed-live b (λ s. settled s (b .day)) i room t)
-        ∙ ap (λ (n : ℤ). marginIn b i a (seriesAt b i .mark .option) n) (getD-table accounts (closing (seriesAt b i) (b .day)) a (pos 0) lt)))
+        ∙ ap (λ (n : ℤ). marginIn b i a (seriesAt b i .mark .option) n) (of-account-table (closing (seriesAt b i) (b .day)) a lt)))
 
   -- how far from 0 these are, and what is left of the evening's once the intraday session's are taken away
   pub intraday-bounded : Bounded mostInASeries (bySeries (paidFor b (intradayMoneyIn b)))

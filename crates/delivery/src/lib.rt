@@ -1,7 +1,7 @@
 // What the exercise of an evening leaves of a series: the positions that remain, and the futures that arise.
 use exercise::types::Fixing;
 use exercise::types::Outcome;
-use exercise::types::PLACES;
+use places::PLACES;
 use terms::OptionType;
 ghost use mathlib.Core.Path.{_≡_};
 ghost use Prim.Native.Nat.{ℕ, _≤_};
@@ -10,7 +10,7 @@ ghost use Rattle.integer.specs.Bounds.{Within, Bounded};
 ghost use Rattle.integer.specs.Table.{at, table};
 ghost use Rattle.integer.specs.Sum.{sumTo};
 ghost use Rattle.terms.specs.Bounds.{maxPosition};
-ghost use Rattle.exercise.specs.Places.{places, amount};
+ghost use Rattle.places.specs.Places.{places, amount};
 ghost use Rattle.exercise.specs.Evening as rule;
 
 // The position that remains once contracts of it were exercised or assigned.

@@ -2,8 +2,8 @@
 use book::state::Effect;
 use book::state::Event;
 use book::state::Today;
-use exercise::types::PLACES;
 use marking::effect::mark;
+use places::PLACES;
 use requests::effect::decline;
 use requests::effect::exercise;
 use series::refusal::Refusal;

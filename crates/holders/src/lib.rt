@@ -1,11 +1,11 @@
 // What the holders of a series exercise.
 use exercise::types::Fixing;
-use exercise::types::PLACES;
+use places::PLACES;
 use terms::OptionType;
 ghost use mathlib.Core.Path.{_≡_};
 ghost use Prim.Native.Nat.{min, max};
 ghost use Rattle.integer.specs.Table.{at, table};
-ghost use Rattle.exercise.specs.Places.{places, amount, flag};
+ghost use Rattle.places.specs.Places.{places, amount, flag};
 ghost use Rattle.exercise.specs.Exercise as rule;
 ghost use Rattle.exercise.specs.Evening.{exercisedAt};
 

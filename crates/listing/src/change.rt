@@ -1,6 +1,6 @@
 // The series that a listing begins.
-use exercise::types::PLACES;
 use marking::change::no_mark;
+use places::PLACES;
 use series::state::Listing;
 use series::state::Series;
 ghost use mathlib.Core.Path.{_≡_};

@@ -3,7 +3,8 @@ use mathlib.Core.Path.{refl}
 use Rattle.choice.specs.Choice.{choose}
 use Rattle.exercise.specs.Assignment.{rank, assigned}
 use Rattle.exercise.specs.Exercise.{half}
-use Rattle.integer.specs.Sum.{sumℕ}
+use Rattle.integer.specs.Sum.{sumℕ, sumTo}
+use Rattle.places.specs.Places.{placeIn, placeOf, ofAccount}
 use Rattle.series.specs.Refusals.{number}
 use Rattle.series.specs.Conditions.{passesLimit}
 use Rattle.value.specs.Rounding.{nearest}
@@ -12,7 +13,7 @@ use Rattle.book.specs.Step.{decided, run}
 use Rattle.reckoning.specs.Values.{ValuesAndSplits}
 
 pub values-and-splits : ValuesAndSplits
-unfolding nearest half assigned rank sumℕ choose passesLimit decided run answerNumber number
+unfolding nearest half assigned rank sumℕ sumTo placeIn placeOf ofAccount choose passesLimit decided run answerNumber number
 values-and-splits =
     record {
       coefficient-100000-100 = refl;

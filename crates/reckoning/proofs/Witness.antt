@@ -18,6 +18,7 @@ use Rattle.exercise.specs.Exercise.{inTheMoney, half, automatic, exercised}
 use Rattle.integer.specs.Sum.{sumℕ, sumTo}
 use Rattle.integer.specs.Table.{at, table}
 use Rattle.margin.specs.Margin.{signed, cost, costIn}
+use Rattle.places.specs.Places.{placeIn, placeOf, ofAccount}
 use Rattle.series.specs.Conditions.{passesLimit}
 use Rattle.terms.specs.declared.Category.the-variants.{American}
 use Rattle.terms.specs.declared.OptionType.the-variants.{Call}
@@ -52,7 +53,7 @@ example p =
 
 -- what is opened to compute with the rules
 rules : Unit {0}
-unfolding choose sumTo sumℕ table signed cost costIn nearest inTheMoney half automatic exercised rank assigned exercise.shrunk exercise.futures exercise.remaining exercise.arisen passesLimit wasCarriedOut firstFrom needsMark intradayMoneyIn eveningMarginIn eveningMoneyIn intradayMoney eveningMoney decided run
+unfolding choose sumTo sumℕ table placeIn placeOf ofAccount signed cost costIn nearest inTheMoney half automatic exercised rank assigned exercise.shrunk exercise.futures exercise.remaining exercise.arisen passesLimit wasCarriedOut firstFrom needsMark intradayMoneyIn eveningMarginIn eveningMoneyIn intradayMoney eveningMoney decided run
 rules = tt
 
 -- a test at each number below n

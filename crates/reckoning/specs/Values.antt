@@ -7,7 +7,7 @@ use lib.IntN.{pos, negℤ}
 use lib.ListN.{replicate}
 use Rattle.exercise.specs.Assignment.{assigned}
 use Rattle.exercise.specs.Exercise.{half}
-use Rattle.exercise.specs.Places.{places, amount}
+use Rattle.places.specs.Places.{places, amount}
 use Rattle.terms.specs.declared.Category.the-variants.{American}
 use Rattle.terms.specs.declared.OptionType.the-variants.{Call, Put}
 use Rattle.value.specs.Value.{coefficientOf, valueOf}

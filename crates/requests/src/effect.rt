@@ -2,7 +2,7 @@ use crate::verdict::decline_verdict;
 use crate::verdict::exercise_verdict;
 use book::state::Effect;
 use book::state::Today;
-use exercise::types::PLACES;
+use places::PLACES;
 use series::event::Request;
 use series::event::Waiver;
 use series::refusal::Verdict;

@@ -1,7 +1,8 @@
 // The conditions, tested in the order of the refusals' numbers.
+use account_places::place_of;
 use book::state::Today;
-use exercise::types::PLACES;
 use holders::held;
+use places::PLACES;
 use series::event::Request;
 use series::event::Waiver;
 use series::refusal::Refusal;
@@ -43,15 +44,15 @@ pub fn exercise_verdict(
     if listing.last_day < today.day {
         return Verdict::Refused(Refusal::Expired);
     }
-    let a = request.account as usize;
-    if ACCOUNTS <= a {
+    if ACCOUNTS <= request.account as usize {
         return Verdict::Refused(Refusal::UnknownAccount);
     }
     let category = listing.category;
     if too_early(category, today.day, listing.last_day) {
         return Verdict::Refused(Refusal::NotToday);
     }
-    if (held(positions[a]) as u64) < request.quantity {
+    let place = place_of(request.account);
+    if (held(positions[place]) as u64) < request.quantity {
         return Verdict::Refused(Refusal::NotHeld);
     }
     Verdict::Allowed

@@ -1,7 +1,7 @@
 // The lines of a row that is an event. Each function puts its text at a place of the buffer and returns the place after it.
 use book::state::Answer;
 use book::state::Step;
-use exercise::types::PLACES;
+use places::PLACES;
 use series::state::Series;
 use terms::bounds::ACCOUNTS;
 use terms::bounds::SERIES;
@@ -53,7 +53,7 @@ fn series_futures(
     let mut next = at;
     let mut a: usize = 0;
     while a < ACCOUNTS {
-        let arisen = after[a] as i64 - before[a] as i64;
+        let arisen = account_places::of_account(&after, a) - account_places::of_account(&before, a);
         next = lines::futures(out, next, row, i, a as u8, arisen);
         a += 1;
     }

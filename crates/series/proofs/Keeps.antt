@@ -8,7 +8,8 @@ use native.Mathlib.Omega.{arith}
 use lib.IntN.{ℤ, pos, _+ℤ_, _-ℤ_}
 use lib.ListN.{length, length-set}
 use Rattle.choice.specs.Choice.{choose}
-use Rattle.exercise.specs.Places.{places, amount, flag}
+use Rattle.places.specs.Places.{places, placeOf, amount, flag}
+use Rattle.places.proofs.Places.{place-of-within, place-of-other}
 use Rattle.exercise.specs.Evening.{remaining}
 use Rattle.exercise.proofs.Session.{remaining-in-all, remaining-within, arisen-in-all, arisen-within}
 use Rattle.integer.specs.Bounds.{Within}
@@ -22,7 +23,7 @@ use Rattle.terms.specs.Bounds.{accounts, maxOptionPrice, maxTickValue, maxPosit
 use Rattle.value.specs.Value.{coefficientOf}
 use Rattle.series.specs.Changes.{traded, requested, declinedBy, marked, unmarked, fixingOf, closing, newFutures, settled}
 use Rattle.series.specs.Good.{Balanced, GoodSeries}
-use Rattle.series.specs.Series.{zeros, newSeries, withRequests, lastDay, positionOf}
+use Rattle.series.specs.Series.{zeros, newSeries, withRequests, lastDay, positionIn}
 use Rattle.series.specs.declared.event.Request.{Request}
 use Rattle.series.specs.declared.event.Waiver.{Waiver}
 use Rattle.series.specs.declared.event.Quote.{Quote}
@@ -50,8 +51,8 @@ pub record CanMove (s : Series) (t : Trade) : Type 0 where
   pub buyer : t .buyer < accounts
   pub seller : t .seller < accounts
   pub apart : t .buyer ≢ t .seller
-  pub buyer-limit : Within maxPosition (positionOf s (t .buyer) +ℤ pos (t .quantity))
-  pub seller-limit : Within maxPosition (positionOf s (t .seller) -ℤ pos (t .quantity))
+  pub buyer-limit : Within maxPosition (positionIn (s .positions) (t .buyer) +ℤ pos (t .quantity))
+  pub seller-limit : Within maxPosition (positionIn (s .positions) (t .seller) -ℤ pos (t .quantity))
 
 pub good-new : (day : ℕ) (l : Listing) → GoodSeries day (newSeries l)
 good-new day l =
@@ -72,9 +73,9 @@ module _ (day : ℕ) (s : Series) (g : GoodSeries day s) where
       record {
         positions = record {
           long = simp length-set (g .positions .long);
-          bounded = bounded-set (t .seller) (bounded-set (t .buyer) (g .positions .bounded) (c .buyer-limit)) (c .seller-limit);
+          bounded = bounded-set (placeOf (t .seller)) (bounded-set (placeOf (t .buyer)) (g .positions .bounded) (c .buyer-limit)) (c .seller-limit);
           balance =
-              sum-move-list places (s .positions) (t .buyer) (t .seller) (pos (t .quantity)) (g .positions .long) (c .buyer) (c .seller) (c .apart)
+              sum-move-list places (s .positions) (placeOf (t .buyer)) (placeOf (t .seller)) (pos (t .quantity)) (g .positions .long) (place-of-within (c .buyer)) (place-of-within (c .seller)) (place-of-other (c .apart))
               ∙ g .positions .balance;
         };
         opening = g .opening;
@@ -103,12 +104,12 @@ module _ (day : ℕ) (s : Series) (g : GoodSeries day s) where
 
   pub good-requested : (r : Request) → GoodSeries day (requested s r)
   good-requested r =
-      with-requests _ _ (length-set (s .requests) (r .account) (r .quantity) ∙ g .requests)
-      (length-set (s .declined) (r .account) false ∙ g .declined)
+      with-requests _ _ (length-set (s .requests) (placeOf (r .account)) (r .quantity) ∙ g .requests)
+      (length-set (s .declined) (placeOf (r .account)) false ∙ g .declined)
 
   pub good-declined : (w : Waiver) → GoodSeries day (declinedBy s w)
   good-declined w =
-      with-requests _ _ (length-set (s .requests) (w .account) 0 ∙ g .requests) (length-set (s .declined) (w .account) true ∙ g .declined)
+      with-requests _ _ (length-set (s .requests) (placeOf (w .account)) 0 ∙ g .requests) (length-set (s .declined) (placeOf (w .account)) true ∙ g .declined)
 
   pub good-marked : (q : Quote) → q .option ≤ maxOptionPrice → coefficientOf (q .«tick_value») (s .listing .tick) ≤ maxTickValue
       → GoodSeries day (marked s q)

@@ -16,9 +16,10 @@ ghost use Rattle.integer.specs.Bounds.{Bounded};
 ghost use Rattle.integer.specs.Table.{at, table};
 ghost use Rattle.margin.specs.BySeries.{bySeries, inSeries};
 ghost use Rattle.margin.specs.Margin.{CostsIn, marginOf};
+ghost use Rattle.places.specs.Places.{ofAccount};
 ghost use Rattle.terms.specs.Bounds.{seriesRoom, maxPosition};
 ghost use Rattle.series.specs.Good.{GoodSeries};
-ghost use Rattle.series.specs.Series.{expired, placeOf, positionOf};
+ghost use Rattle.series.specs.Series.{expired, positionOf};
 ghost use Rattle.book.specs.Good.{Good};
 ghost use Rattle.book.specs.Sessions.{marginIn};
 ghost use Rattle.book.specs.State.{noSeries, seriesAt, live};
@@ -47,7 +48,7 @@ fn revalue_series(
     day: u32,
 )
     requires { ⌜ (CostsIn i (now amounts)) × (GoodSeries day s) × (Bounded maxPosition (next .positions)) ⌝ }
-    ensures { λ r. ⌜ now (amounts .exit) ≡ choose (not (expired s day)) (inSeries i (λ a cost. marginOf (s .mark .coefficient) (positionOf next a) (s .mark .option) (at (s .opening) (placeOf a)) (s .«evening_price») cost) (now (amounts .entry))) (now (amounts .entry)) ⌝ }
+    ensures { λ r. ⌜ now (amounts .exit) ≡ choose (not (expired s day)) (inSeries i (λ a cost. marginOf (s .mark .coefficient) (positionOf next a) (s .mark .option) (ofAccount (at (s .opening)) a) (s .«evening_price») cost) (now (amounts .entry))) (now (amounts .entry)) ⌝ }
 {
     if s.listing.last_day < day {
         return;

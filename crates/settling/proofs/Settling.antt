@@ -6,7 +6,7 @@ use Prim.Native.Nat.{ℕ}
 use lib.IntN.{ℤ, pos, _+ℤ_}
 use lib.ListN.{replicate, getD}
 use Rattle.choice.specs.Choice.{choose}
-use Rattle.exercise.specs.Places.{places, amount, flag}
+use Rattle.places.specs.Places.{places, amount, flag}
 use Rattle.exercise.specs.Evening.{outcome, remaining, arisen}
 use Rattle.exercise.specs.declared.types.Outcome.{Outcome}
 use Rattle.exercise.proofs.Session.{arisen-within}

@@ -1,14 +1,14 @@
 // One series after an evening: exercise, then expiry.
 use exercise::types::Fixing;
-use exercise::types::PLACES;
 use marking::change::no_mark;
+use places::PLACES;
 use series::state::Series;
 ghost use mathlib.Core.Path.{_≡_};
 ghost use Prim.Native.Nat.{_≤_, _<_};
 ghost use lib.IntN.{pos, _+ℤ_};
 ghost use lib.ListN.{replicate};
 ghost use Rattle.choice.specs.Choice.{choose};
-ghost use Rattle.exercise.specs.Places.{places};
+ghost use Rattle.places.specs.Places.{places};
 ghost use Rattle.integer.specs.Bounds.{Bounded};
 ghost use Rattle.integer.specs.Table.{at, table};
 ghost use Rattle.margin.specs.Bounds.{maxFutures};

@@ -1,6 +1,7 @@
 // Whether a trade may be made: the conditions, tested in the order of the refusals' numbers.
+use account_places::place_of;
 use book::state::Today;
-use exercise::types::PLACES;
+use places::PLACES;
 use series::event::Deal;
 use series::refusal::Refusal;
 use series::refusal::Verdict;
@@ -68,10 +69,12 @@ pub fn trade_verdict(
     if 0 < deal.price % listing.tick as u64 {
         return Verdict::Refused(Refusal::Price);
     }
-    if passes_limit(positions[x] as i64 + deal.quantity as i64) {
+    let buyer = place_of(deal.buyer);
+    let seller = place_of(deal.seller);
+    if passes_limit(positions[buyer] as i64 + deal.quantity as i64) {
         return Verdict::Refused(Refusal::PositionLimit);
     }
-    if passes_limit(positions[y] as i64 - deal.quantity as i64) {
+    if passes_limit(positions[seller] as i64 - deal.quantity as i64) {
         return Verdict::Refused(Refusal::PositionLimit);
     }
     if BLOTTER <= today.trades {

@@ -1,6 +1,7 @@
 // The positions of a series, in place.
-use exercise::types::PLACES;
+use account_places::place_of;
 use margin::trade::Trade;
+use places::PLACES;
 ghost use mathlib.Core.Path.{_≡_};
 ghost use Rattle.integer.specs.Bounds.{Bounded};
 ghost use Rattle.terms.specs.Bounds.{maxPosition};
@@ -12,8 +13,8 @@ pub fn trade(positions: &mut [i32; PLACES], t: Trade)
     requires { ⌜ (FittingTrade t) × (Bounded maxPosition (now positions)) ⌝ }
     ensures { λ r. ⌜ now (positions .exit) ≡ rule.moved (now (positions .entry)) t ⌝ }
 {
-    let x = t.buyer as usize;
-    let y = t.seller as usize;
+    let x = place_of(t.buyer);
+    let y = place_of(t.seller);
     let q = t.quantity as i32;
     positions[x] = positions[x] + q;
     positions[y] = positions[y] - q;

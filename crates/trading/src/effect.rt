@@ -1,7 +1,7 @@
 use book::state::Effect;
 use book::state::Today;
-use exercise::types::PLACES;
 use margin::trade::Trade;
+use places::PLACES;
 use series::event::Deal;
 use series::refusal::Verdict;
 use series::state::Listing;

@@ -18,7 +18,7 @@ use Rattle.integer.proofs.Table.{length-table, getD-table, is-table, table-ext}
 use Rattle.terms.specs.Bounds.{maxPosition}
 use Rattle.exercise.specs.declared.types.Fixing.{Fixing}
 use Rattle.exercise.specs.declared.types.Outcome.{Outcome}
-use Rattle.exercise.specs.Places.{places, amount, flag}
+use Rattle.places.specs.Places.{places, amount, flag}
 use Rattle.exercise.specs.Exercise.{held, short}
 use Rattle.exercise.specs.Assignment.{assigned}
 use Rattle.exercise.specs.Evening.{shrunk, futures, exercisedAt, exercisedInAll, assignedAt, remaining, arisen, outcome}

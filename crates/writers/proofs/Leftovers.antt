@@ -18,7 +18,7 @@ use Rattle.integer.proofs.NatSum.{sumℕ-ext}
 use Rattle.integer.proofs.Count.{count-mono}
 use Rattle.integer.specs.Table.{table}
 use Rattle.integer.proofs.Table.{length-table, getD-table, is-table}
-use Rattle.exercise.specs.Places.{amount}
+use Rattle.places.specs.Places.{amount}
 use Rattle.exercise.specs.Assignment.{wholePart, remainder, leftOver, ahead, rank, assigned}
 use Rattle.exercise.proofs.Ranks.{is-false, is-true, larger, is-ahead, ahead-irrefl, ahead-trans, ahead-ext, rank-distinct, rank-count, rank-ext, test-past}
 use Rattle.exercise.proofs.Assigning.{whole-parts-most, left-few}

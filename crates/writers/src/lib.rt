@@ -3,15 +3,15 @@ pub mod sum;
 
 use crate::sum::total;
 use crate::sum::wide;
-use exercise::types::PLACES;
 use exercise::types::Shares;
+use places::PLACES;
 ghost use mathlib.Core.Path.{_≡_};
 ghost use Prim.Native.Nat.{_≤_, _<_, _^_};
 ghost use Rattle.integer.specs.Bounds.{Bounded};
 ghost use Rattle.integer.specs.Sum.{sumℕ};
 ghost use Rattle.integer.specs.Table.{at, table};
 ghost use Rattle.terms.specs.Bounds.{maxPosition};
-ghost use Rattle.exercise.specs.Places.{places, amount};
+ghost use Rattle.places.specs.Places.{places, amount};
 ghost use Rattle.exercise.specs.Exercise as rule;
 ghost use Rattle.exercise.specs.Assignment.{wholePart, remainder, assigned};
 

@@ -1,9 +1,9 @@
 // Sums over the places of a series.
-use exercise::types::PLACES;
+use places::PLACES;
 ghost use mathlib.Core.Path.{_≡_};
 ghost use Prim.Native.Nat.{_<_, _^_};
 ghost use Rattle.integer.specs.Sum.{sumℕ};
-ghost use Rattle.exercise.specs.Places.{places, amount};
+ghost use Rattle.places.specs.Places.{places, amount};
 
 // A number in 64 bits.
 pub fn wide(x: u32) -> u64

@@ -10,7 +10,7 @@ use mir.Facts.{toZ-ofZ}
 use Rattle.integer.proofs.Machine.{param, passed}
 use Rattle.integer.specs.Table.{at}
 use Rattle.integer.proofs.Table.{Filled, filled-start, filled-next, filled-all}
-use Rattle.exercise.specs.Places.{places, amount}
+use Rattle.places.specs.Places.{places, amount}
 use Rattle.exercise.specs.Evening.{shrunk, futures}
 use Rattle.delivery.proofs.by_place.Statement.{statement}
 use Rattle.delivery.proofs.by_place.Tie as tie

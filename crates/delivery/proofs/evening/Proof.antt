@@ -2,7 +2,7 @@
 use borrow.Author.Needs.{needs}
 use mathlib.Core.Path.{_≡_}
 use lib.ListN.{length}
-use Rattle.exercise.specs.Places.{places}
+use Rattle.places.specs.Places.{places}
 use Rattle.writers.proofs.Arrays as law
 use Rattle.delivery.proofs.evening.Statement.{statement}
 use Rattle.delivery.proofs.evening.Tie as tie

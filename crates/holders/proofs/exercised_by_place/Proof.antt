@@ -9,7 +9,7 @@ use mir.Val.{SFits}
 use mir.Facts.{toZ-ofZ}
 use Rattle.integer.specs.Table.{at}
 use Rattle.integer.proofs.Table.{Filled, filled-start, filled-next, filled-all}
-use Rattle.exercise.specs.Places.{places, amount, flag}
+use Rattle.places.specs.Places.{places, amount, flag}
 use Rattle.exercise.specs.Exercise.{exercised}
 use Rattle.exercise.specs.Evening.{exercisedAt}
 use Rattle.holders.proofs.exercised_by_place.Statement.{statement}

@@ -8,9 +8,10 @@ use mir.Syntax.{w32, w64}
 use borrow.Author.Needs.{needs}
 use Rattle.decimal.specs.Put.{Put}
 use Rattle.integer.specs.Table.{at}
-use Rattle.integer.proofs.Machine.{Reads, any, minus, local, fits}
+use Rattle.integer.proofs.Machine.{Reads, any, same, minus, local, fits}
 use Rattle.terms.specs.Bounds.{accounts}
-use Rattle.exercise.specs.Places.{places}
+use Rattle.places.specs.Places.{places, ofAccount}
+use Rattle.places.proofs.Places.{of-account-within}
 use Rattle.report.specs.Report.{arisen, futuresLine, seriesLines}
 use Rattle.report.specs.Lines.{lineRoom, joined}
 use Rattle.report.proofs.Fields.{text-of}
@@ -25,40 +26,38 @@ Inv-loop out₀ place row i before after next₀ a₀ out next a =
 abbrev μ-loop : tie.MeasureT-loop
 μ-loop out₀ place row i before after next₀ a₀ out next a = accounts - a
 
--- each account's futures are numbers of 32 bits, and their difference is one of 64
-module _ (c : tie.Start Inv-loop μ-loop) (a : ℕ) where
-  abbrev earlier : Reads 2147483648 (at (c .args .t5) a)
-  earlier = any w32 (element-fits w32 (lit< tt) places (c .args .t5) _ (c .good .1 .1 .1 .1 .0) a)
+-- the futures at each place are numbers of 32 bits, and the difference of an account's is one of 64
+module _ (c : tie.After-of-account2 Inv-loop μ-loop) where
+  abbrev turn : tie.In-loop Inv-loop μ-loop
+  turn = c .before .before .before .before
 
-  abbrev later : Reads 2147483648 (at (c .args .t6) a)
-  later = any w32 (element-fits w32 (lit< tt) places (c .args .t6) _ (c .good .1 .1 .1 .1 .1 .0) a)
+  abbrev start : tie.Start Inv-loop μ-loop
+  start = turn .before .before .before
 
-  abbrev difference : Reads 4294967296 (arisen (c .args .t5) (c .args .t6) a)
+  abbrev earlier : Reads 2147483648 (ofAccount (at (start .args .t5)) (turn .before .loop .a))
+  earlier =
+      same (c .of-account2 .result) (c .of-account2 .ensures)
+      (of-account-within _ (λ k. any w32 (element-fits w32 (lit< tt) places (start .args .t5) _ (start .good .1 .1 .1 .1 .0) k) .bound) _)
+
+  abbrev later : Reads 2147483648 (ofAccount (at (start .args .t6)) (turn .before .loop .a))
+  later =
+      same (c .before .before .of-account .result) (c .before .before .of-account .ensures)
+      (of-account-within _ (λ k. any w32 (element-fits w32 (lit< tt) places (start .args .t6) _ (start .good .1 .1 .1 .1 .1 .0) k) .bound) _)
+
+  abbrev difference : Reads 4294967296 (arisen (start .args .t5) (start .args .t6) (turn .before .loop .a))
   difference = minus (local w64 later tt) (local w64 earlier tt)
 
 loop-holds : tie.Need-loop-holds Inv-loop μ-loop
 loop-holds c = (omega arith, refl, omega arith, joined-put _ _ _)
 
-mul-arisen : tie.Need-mul-arisen Inv-loop μ-loop
-mul-arisen c = search needs
+of-account-requires : tie.Need-of-account-requires Inv-loop μ-loop
+of-account-requires c κs = c .before .loop-test .taken
 
-array-copy-out-arisen : tie.Need-array-copy-out-arisen Inv-loop μ-loop
-array-copy-out-arisen c = search needs
-
-cast-arisen : tie.Need-cast-arisen Inv-loop μ-loop
-cast-arisen c = fits w64 (later (c .before .before .before .before) (c .before .before .loop .a)) tt
-
-mul-arisen-2 : tie.Need-mul-arisen-2 Inv-loop μ-loop
-mul-arisen-2 c = search needs
-
-array-copy-out-arisen-2 : tie.Need-array-copy-out-arisen-2 Inv-loop μ-loop
-array-copy-out-arisen-2 c = search needs
-
-cast-arisen-2 : tie.Need-cast-arisen-2 Inv-loop μ-loop
-cast-arisen-2 c = fits w64 (earlier (c .before .before .before .before .before) (c .before .before .before .loop .a)) tt
+of-account-requires-2 : tie.Need-of-account-requires-2 Inv-loop μ-loop
+of-account-requires-2 c κs = c .before .before .before .loop-test .taken
 
 sub-arisen : tie.Need-sub-arisen Inv-loop μ-loop
-sub-arisen c = fits w64 (difference (c .before .before .before .before .before) (c .before .before .before .loop .a)) tt
+sub-arisen c = fits w64 (difference c) tt
 
 cast-futures : tie.Need-cast-futures Inv-loop μ-loop
 cast-futures c = search needs
@@ -74,10 +73,10 @@ loop-less c = search needs
 
 loop-again : tie.Need-loop-again Inv-loop μ-loop
 loop-again c =
-    let start = c .before .before .before .before .before .before .before .before .before in
-    let loop = c .before .before .before .before .before .before .before in
+    let l = c .before .before .before .before in
+    let loop = turn l .before in
     let a = loop .loop .a in
-    let put = text-of (futuresLine (start .args .row) (start .args .i) a) (local w64 (difference start a) tt .is) (c .before .before .futures .ensures .0) in
+    let put = text-of (futuresLine (start l .args .row) (start l .args .i) a) (local w64 (difference l) tt .is) (c .before .before .futures .ensures .0) in
     (omega arith, search needs, omega (arith, c .before .before .futures .ensures .1), joined-next a _ (loop .loop .inv .3) put)
 
 same-length : tie.Need-same-length Inv-loop μ-loop
@@ -97,12 +96,8 @@ series-futures-spec =
     Inv-loop
     μ-loop
     loop-holds
-    mul-arisen
-    array-copy-out-arisen
-    cast-arisen
-    mul-arisen-2
-    array-copy-out-arisen-2
-    cast-arisen-2
+    of-account-requires
+    of-account-requires-2
     sub-arisen
     cast-futures
     futures-requires

@@ -1,5 +1,5 @@
 -- `trade_verdict::trade_verdict` meets its contract: the tests are those of the rule, in its order.
-use mathlib.Core.Path.{_≡_, refl, sym, _∙_}
+use mathlib.Core.Path.{_≡_, refl, sym, ap, _∙_}
 use Prim.Native.Nat.{ℕ, _%_, _≤_}
 use native.Mathlib.Omega.{arith}
 use lib.IntN.{ℤ, pos, _+ℤ_, _-ℤ_}
@@ -10,6 +10,7 @@ use Rattle.choice.specs.Choice.{choose}
 use Rattle.choice.proofs.Chain.{hit, past, tests}
 use Rattle.integer.proofs.Machine.{Reads, any, nat, plus, minus, local, fits}
 use Rattle.integer.specs.Table.{at}
+use Rattle.places.specs.Places.{placeOf}
 use Rattle.terms.specs.Bounds.{maxOptionPrice, maxQuantity}
 use Rattle.series.specs.Conditions.{passesLimit}
 use Rattle.series.specs.Series.{pastLast}
@@ -116,37 +117,46 @@ module _ (c : tie.Else10) where
   quantity = start c .args .deal .quantity
 
   abbrev buyer-has : ℤ
-  buyer-has = at (start c .args .positions .now) (start c .args .deal .buyer)
+  buyer-has = at (start c .args .positions .now) (placeOf (start c .args .deal .buyer))
 
   abbrev seller-has : ℤ
-  seller-has = at (start c .args .positions .now) (start c .args .deal .seller)
+  seller-has = at (start c .args .positions .now) (placeOf (start c .args .deal .seller))
 
   small : quantity ≤ maxQuantity
   small = c .before .before .before .before .before .if8 .left
 
 module _ (c : tie.After-passes-limit-arg) where
-  abbrev buyer-position : Reads 2147483648 (buyer-has (c .before))
+  abbrev at-purchase : tie.Else10
+  at-purchase = c .before .before .before
+
+  abbrev buyer-position : Reads 2147483648 (at (start at-purchase .args .positions .now) (c .before .before .place-of .result))
   buyer-position = any w32 (record { sfits = c .passes-limit-arg .given })
 
-  abbrev bought : Reads 2147484648 (buyer-has (c .before) +ℤ pos (quantity (c .before)))
-  bought = plus (local w64 buyer-position tt) (nat w64 (small (c .before)) tt)
+  abbrev bought : Reads 2147484648 (at (start at-purchase .args .positions .now) (c .before .before .place-of .result) +ℤ pos (quantity at-purchase))
+  bought = plus (local w64 buyer-position tt) (nat w64 (small at-purchase) tt)
 
 module _ (c : tie.After-passes-limit-arg2) where
   abbrev at-sale : tie.Else10
-  at-sale = c .before .before .before .before .before
+  at-sale = c .before .before .before .before .before .before .before
 
-  abbrev seller-position : Reads 2147483648 (seller-has at-sale)
+  abbrev seller-position : Reads 2147483648 (at (start at-sale .args .positions .now) (c .before .before .before .before .before .place-of2 .result))
   seller-position = any w32 (record { sfits = c .passes-limit-arg2 .given })
 
-  abbrev sold : Reads 2147484648 (seller-has at-sale -ℤ pos (quantity at-sale))
+  abbrev sold : Reads 2147484648 (at (start at-sale .args .positions .now) (c .before .before .before .before .before .place-of2 .result) -ℤ pos (quantity at-sale))
   sold = minus (local w64 seller-position tt) (nat w64 (small at-sale) tt)
 
--- what the two calls gave, of the positions themselves
-buyer-passes : (c : tie.After-passes-limit) → c .passes-limit .result ≡ passesLimit (buyer-has (c .before .before .before) +ℤ pos (quantity (c .before .before .before)))
-buyer-passes c = rw (local w64 (bought (c .before .before)) tt .is) at (c .passes-limit .ensures)
+-- what the two calls gave, of the positions at the places of buyer and seller
+buyer-passes : (c : tie.After-passes-limit) → c .passes-limit .result ≡ passesLimit (buyer-has (at-purchase (c .before .before)) +ℤ pos (quantity (at-purchase (c .before .before))))
+buyer-passes c =
+    let b = at-purchase (c .before .before) in
+    (rw (local w64 (bought (c .before .before)) tt .is) at (c .passes-limit .ensures))
+    ∙ ap (λ (k : ℕ). passesLimit (at (start b .args .positions .now) k +ℤ pos (quantity b))) (c .before .before .before .before .place-of .ensures .0)
 
 seller-passes : (c : tie.After-passes-limit2) → c .passes-limit2 .result ≡ passesLimit (seller-has (at-sale (c .before .before)) -ℤ pos (quantity (at-sale (c .before .before))))
-seller-passes c = rw (local w64 (sold (c .before .before)) tt .is) at (c .passes-limit2 .ensures)
+seller-passes c =
+    let b = at-sale (c .before .before) in
+    (rw (local w64 (sold (c .before .before)) tt .is) at (c .passes-limit2 .ensures))
+    ∙ ap (λ (k : ℕ). passesLimit (at (start b .args .positions .now) k -ℤ pos (quantity b))) (c .before .before .before .before .before .before .before .place-of2 .ensures .0)
 
 -- neither side passes the limit
 no-limit-passed : (c : tie.Else12) {z v : Verdict} → z ≡ v
@@ -155,6 +165,12 @@ no-limit-passed : (c : tie.Else12) {z v : Verdict} → z ≡ v
 no-limit-passed c e =
     past _ (sym (buyer-passes (c .before .before .before .before .before)) ∙ c .before .before .before .before .if11 .left)
     (past _ (sym (seller-passes (c .before)) ∙ c .if12 .left) e)
+
+place-of-requires : tie.Need-place-of-requires
+place-of-requires c κs = search needs
+
+place-of-requires-2 : tie.Need-place-of-requires-2
+place-of-requires-2 c κs = search needs
 
 mul-passes-limit : tie.Need-mul-passes-limit
 mul-passes-limit c = search needs
@@ -175,7 +191,7 @@ passes-limit-requires : tie.Need-passes-limit-requires
 passes-limit-requires c κs = search needs
 
 returns-11 : tie.Need-returns-11
-returns-11 c = all-fail (c .before .before .before .before) (hit _ (sym (buyer-passes (c .before)) ∙ c .if11 .taken) refl)
+returns-11 c = all-fail (at-purchase (c .before .before .before)) (hit _ (sym (buyer-passes (c .before)) ∙ c .if11 .taken) refl)
 
 mul-passes-limit-2 : tie.Need-mul-passes-limit-2
 mul-passes-limit-2 c = search needs
@@ -226,6 +242,8 @@ trade-verdict-spec =
     cast-if10
     rem-if10
     returns-10
+    place-of-requires
+    place-of-requires-2
     mul-passes-limit
     element-copy-out-passes-limit
     cast-passes-limit

@@ -6,7 +6,7 @@ use native.Mathlib.Omega.{arith}
 use lib.ListN.{getD-replicate}
 use Rattle.integer.specs.Table.{at}
 use Rattle.integer.proofs.Table.{is-table}
-use Rattle.exercise.specs.Places.{places}
+use Rattle.places.specs.Places.{places}
 use Rattle.exercise.specs.Exercise.{short}
 use Rattle.exercise.specs.Assignment.{assigned}
 use Rattle.exercise.proofs.Assigning.{none-assigned}

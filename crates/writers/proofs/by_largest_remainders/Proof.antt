@@ -12,7 +12,7 @@ use Rattle.integer.proofs.NatSum.{sumℕ-term}
 use Rattle.integer.proofs.Count.{count-most}
 use Rattle.integer.specs.Table.{table}
 use Rattle.exercise.specs.declared.types.Shares.{Shares}
-use Rattle.exercise.specs.Places.{places, amount}
+use Rattle.places.specs.Places.{places, amount}
 use Rattle.exercise.specs.Assignment.{wholePart, remainder, rank, assigned}
 use Rattle.writers.proofs.Leftovers as law
 use Rattle.writers.proofs.by_largest_remainders.Statement.{statement}

@@ -5,7 +5,7 @@ use Prim.Native.Nat.{ℕ, _≤_, _-_, _*_, _/_, _%_}
 use native.Mathlib.Nat.{mul-le-mul, mul-le-mul-right, mod-lt, div-le-of-le-mul}
 use native.Mathlib.Omega.{arith}
 use Rattle.integer.proofs.Table.{Filled, filled-start, filled-next, filled-all}
-use Rattle.exercise.specs.Places.{places, amount}
+use Rattle.places.specs.Places.{places, amount}
 use Rattle.exercise.specs.Assignment.{wholePart, remainder}
 use Rattle.writers.proofs.shares.Statement.{statement}
 use Rattle.writers.proofs.shares.Tie as tie

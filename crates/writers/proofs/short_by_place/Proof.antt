@@ -8,7 +8,7 @@ use mir.Val.{SFits}
 use mir.Facts.{toZ-ofZ}
 use Rattle.integer.specs.Table.{at}
 use Rattle.integer.proofs.Table.{Filled, filled-start, filled-next, filled-all}
-use Rattle.exercise.specs.Places.{places}
+use Rattle.places.specs.Places.{places}
 use Rattle.exercise.specs.Exercise.{short}
 use Rattle.writers.proofs.short_by_place.Statement.{statement}
 use Rattle.writers.proofs.short_by_place.Tie as tie

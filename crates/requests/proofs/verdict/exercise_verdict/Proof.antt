@@ -5,16 +5,17 @@ use Rattle.choice.proofs.Chain.{hit, past, tests}
 use Rattle.exercise.specs.Exercise.{held}
 use Rattle.integer.proofs.Machine.{any}
 use Rattle.integer.specs.Table.{at}
+use Rattle.places.specs.Places.{placeOf}
 use borrow.Author.Needs.{needs}
 use Rattle.requests.proofs.verdict.exercise_verdict.Statement.{statement}
 use Rattle.requests.proofs.verdict.exercise_verdict.Tie as tie
 
 -- what the call gave, of the position itself
 abbrev start : tie.After-held → tie.Start
-start c = c .before .before .before .before .before .before .before .before .before .before .before .before .before .before
+start c = c .before .before .before .before .before .before .before .before .before .before .before .before .before .before .before
 
-gave : (c : tie.After-held) → c .held .result ≡ held (at (start c .args .positions .now) (start c .args .request .account))
-gave c = rw (any w32 (record { sfits = c .before .held-arg .given }) .is) at (c .held .ensures)
+gave : (c : tie.After-held) → c .held .result ≡ held (at (start c .args .positions .now) (placeOf (start c .args .request .account)))
+gave c = rw (any w32 (record { sfits = c .before .held-arg .given }) .is, c .before .before .place-of .ensures .0) at (c .held .ensures)
 
 returns : tie.Need-returns
 returns c = search (hit, past, tests) depth 28
@@ -28,8 +29,8 @@ returns-2 c = search (hit, past, tests) depth 28
 returns-3 : tie.Need-returns-3
 returns-3 c = search (hit, past, tests) depth 28
 
-cast-a : tie.Need-cast-a
-cast-a c = search needs
+cast-if4 : tie.Need-cast-if4
+cast-if4 c = search needs
 
 returns-4 : tie.Need-returns-4
 returns-4 c = search (hit, past, tests) depth 28
@@ -39,6 +40,9 @@ too-early-requires c κs = search needs
 
 returns-5 : tie.Need-returns-5
 returns-5 c = rw (← c .before .too-early .ensures) (search (hit, past, tests) depth 28)
+
+place-of-requires : tie.Need-place-of-requires
+place-of-requires c κs = search needs
 
 mul-held : tie.Need-mul-held
 mul-held c = search needs
@@ -53,10 +57,10 @@ cast-if6 : tie.Need-cast-if6
 cast-if6 c = search needs
 
 returns-6 : tie.Need-returns-6
-returns-6 c = rw (← c .before .before .before .before .before .too-early .ensures, ← gave (c .before .before)) (search (hit, past, tests) depth 28)
+returns-6 c = rw (← c .before .before .before .before .before .before .too-early .ensures, ← gave (c .before .before)) (search (hit, past, tests) depth 28)
 
 returns-7 : tie.Need-returns-7
-returns-7 c = rw (← c .before .before .before .before .before .too-early .ensures, ← gave (c .before .before)) (search (hit, past, tests) depth 28)
+returns-7 c = rw (← c .before .before .before .before .before .before .too-early .ensures, ← gave (c .before .before)) (search (hit, past, tests) depth 28)
 
 pub exercise-verdict-spec : {M : Type 1} → statement M
 exercise-verdict-spec =
@@ -66,10 +70,11 @@ exercise-verdict-spec =
     cast-if2
     returns-2
     returns-3
-    cast-a
+    cast-if4
     returns-4
     too-early-requires
     returns-5
+    place-of-requires
     mul-held
     element-copy-out-held
     held-requires

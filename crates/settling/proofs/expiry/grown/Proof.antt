@@ -7,7 +7,7 @@ use mir.Syntax.{w32}
 use Rattle.integer.proofs.Machine.{fits}
 use Rattle.integer.specs.Table.{at}
 use Rattle.integer.proofs.Table.{Filled, filled-start, filled-all}
-use Rattle.exercise.specs.Places.{places}
+use Rattle.places.specs.Places.{places}
 use Rattle.margin.proofs.Combined.{sum-at, sum-next}
 use Rattle.settling.proofs.expiry.grown.Statement.{statement}
 use Rattle.settling.proofs.expiry.grown.Tie as tie

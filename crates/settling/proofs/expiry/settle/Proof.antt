@@ -3,7 +3,7 @@ use mathlib.Core.Path.{ap, _∙_}
 use native.Mathlib.Omega.{arith}
 use lib.ListN.{replicate}
 use mathlib.Core.Bool.{false}
-use Rattle.exercise.specs.Places.{places}
+use Rattle.places.specs.Places.{places}
 use Rattle.exercise.specs.declared.types.Outcome.{Outcome}
 use Rattle.integer.proofs.Bounds.{bounded-le}
 use Rattle.series.specs.Series.{withMark, withRequests, withEvening}

@@ -5,7 +5,7 @@ use Prim.Native.Nat.{ℕ, _≤_, _-_, _*_}
 use native.Mathlib.Omega.{arith}
 use Rattle.integer.specs.Sum.{sumℕ}
 use Rattle.integer.proofs.NatSum.{sumℕ-zero, sumℕ-next}
-use Rattle.exercise.specs.Places.{places, amount}
+use Rattle.places.specs.Places.{places, amount}
 use Rattle.writers.proofs.sum.total.Statement.{statement}
 use Rattle.writers.proofs.sum.total.Tie as tie
 
