@@ -14,6 +14,9 @@ use terms::bounds::ACCOUNTS;
 use terms::bounds::BLOTTER;
 use terms::bounds::SERIES;
 ghost use mathlib.Core.Path.{_≡_};
+ghost use Prim.Native.Nat.{_<_};
+ghost use Rattle.terms.specs.Bounds.{seriesRoom};
+ghost use Rattle.book.specs.Effects.{seriesOf};
 ghost use Rattle.book.specs.Good.{Good};
 ghost use Rattle.book.specs.State.{emptyBook};
 ghost use Rattle.book.specs.Step.{stepOf};
@@ -49,15 +52,11 @@ pub fn empty() -> Book
     }
 }
 
-// What the book answers to an event. An event on one series is made in place; `whole` has the others.
-pub fn step(mut book: Book, event: Event) -> Step
-    requires { ⌜ Good book ⌝ }
-    ensures { λ r. ⌜ (r ≡ stepOf book event) × Good (r .book) ⌝ }
+// An event on series i, made in place.
+fn on_series(mut book: Book, i: usize, event: Event) -> Step
+    requires { ⌜ (Good book) × (i ≡ seriesOf event) × (i < seriesRoom) ⌝ }
+    ensures { λ r. ⌜ r ≡ stepOf book event ⌝ }
 {
-    let i = effect::series_of(event);
-    if SERIES <= i {
-        return whole::whole(book, event);
-    }
     let mut s = book.series[i];
     let listing = s.listing;
     let mark = s.mark;
@@ -85,4 +84,16 @@ pub fn step(mut book: Book, event: Event) -> Step
         money: [0i64; ACCOUNTS],
         book: book,
     }
+}
+
+// What the book answers to an event.
+pub fn step(book: Book, event: Event) -> Step
+    requires { ⌜ Good book ⌝ }
+    ensures { λ r. ⌜ (r ≡ stepOf book event) × Good (r .book) ⌝ }
+{
+    let i = effect::series_of(event);
+    if SERIES <= i {
+        return whole::whole(book, event);
+    }
+    on_series(book, i, event)
 }

@@ -18,12 +18,10 @@ pub fn whole(book: Book, event: Event) -> Step
     ensures { λ r. ⌜ r ≡ rule.stepOf book event ⌝ }
 {
     match event {
-        Event::List(new) => list(book, new),
-        Event::Trade(_) => no_such_series(book),
-        Event::Exercise(_) => no_such_series(book),
-        Event::Decline(_) => no_such_series(book),
-        Event::Mark(_) => no_such_series(book),
-        Event::Intraday => intraday(book),
-        Event::Evening => evening(book),
+        Event::List(new) => return list(book, new),
+        Event::Intraday => return intraday(book),
+        Event::Evening => return evening(book),
+        _ => {}
     }
+    no_such_series(book)
 }

@@ -3,48 +3,47 @@ use answers::is_session;
 use book::state::Book;
 use book::state::Event;
 use book::state::Found;
+use book::state::Step;
 use rows::types::Row;
+use series::state::Series;
 use stream::types::Replay;
-ghost use mathlib.Core.Path.{_≡_};
-ghost use mathlib.Core.Bool.{false};
+use terms::bounds::SERIES;
 ghost use Prim.Native.Nat.{_+_, _≤_};
 ghost use lib.ListN.{length};
+ghost use Rattle.choice.specs.Choice.{choose};
+ghost use Rattle.decimal.specs.Put.{Put};
 ghost use Rattle.book.specs.Good.{Good};
-ghost use Rattle.report.specs.Report.{isSession, rowRoom};
+ghost use Rattle.report.specs.Report.{isSession, answerOf, reportOf, rowRoom};
 ghost use Rattle.stream.specs.Parts.{EventPut, RowPut};
 
-// A session: its step, and all its lines.
-fn session_row(
+// The lines of an event: all of its report where it is a session, and its answer where it is not.
+fn event_lines(
     out: &mut [u8],
     at: usize,
-    intact: bool,
     row: u64,
-    book: Book,
     event: Event,
-) -> Replay
+    before: [Series; SERIES],
+    step: Step,
+) -> usize
+    requires { ⌜ at + rowRoom ≤ length (now out) ⌝ }
+    ensures { λ r. ⌜ Put (now (out .entry)) at (choose (isSession event) (reportOf row before step) (answerOf row (step .answer))) (now (out .exit)) r ⌝ }
+    ensures { λ r. ⌜ r ≤ at + rowRoom ⌝ }
+{
+    if is_session(event) {
+        return row_lines::report(out, at, row, before, step);
+    }
+    let answer = step.answer;
+    row_lines::answered(out, at, row, answer)
+}
+
+// An event: its step, and its lines.
+fn event_row(out: &mut [u8], at: usize, intact: bool, row: u64, book: Book, event: Event) -> Replay
     requires { ⌜ (Good book) × (at + rowRoom ≤ length (now out)) ⌝ }
     ensures { λ r. ⌜ EventPut row book event intact (now (out .entry)) at r (now (out .exit)) ⌝ }
 {
     let before = book.series;
     let step = clearing::step(book, event);
-    let next = row_lines::report(out, at, row, before, step);
-    let after = step.book;
-    Replay {
-        book: after,
-        row: row,
-        at: next,
-        intact: intact,
-    }
-}
-
-// An event that is no session: its step, and its answer, which is all its report.
-fn event_row(out: &mut [u8], at: usize, intact: bool, row: u64, book: Book, event: Event) -> Replay
-    requires { ⌜ (Good book) × (at + rowRoom ≤ length (now out)) × (isSession event ≡ false) ⌝ }
-    ensures { λ r. ⌜ EventPut row book event intact (now (out .entry)) at r (now (out .exit)) ⌝ }
-{
-    let step = clearing::step(book, event);
-    let answer = step.answer;
-    let next = row_lines::answered(out, at, row, answer);
+    let next = event_lines(out, at, row, event, before, step);
     let after = step.book;
     Replay {
         book: after,
@@ -73,11 +72,6 @@ pub fn answer_row(bytes: &[u8], out: &mut [u8], replay: Replay) -> Replay
                 intact: intact,
             }
         }
-        Row::Accepted(event) => {
-            if is_session(event) {
-                return session_row(out, at, intact, row, book, event);
-            }
-            event_row(out, at, intact, row, book, event)
-        }
+        Row::Accepted(event) => event_row(out, at, intact, row, book, event),
     }
 }

@@ -23,7 +23,7 @@ ghost use Rattle.book.specs.Step as rule;
 ghost use Rattle.book.specs.declared.state.Event as happening;
 
 // Each account receives the variation margin so far of all live series, and the marks are dropped.
-pub fn intraday(mut book: Book) -> Step
+pub fn intraday(book: Book) -> Step
     requires { ⌜ Good book ⌝ }
     ensures { λ r. ⌜ r ≡ rule.stepOf book happening.Event.Intraday ⌝ }
 {
@@ -36,25 +36,33 @@ pub fn intraday(mut book: Book) -> Step
     if let Found::At(i) = first_unmarked(book) {
         return refused(book, Refusal::NoMark(i));
     }
-    let series = unmark_all(book);
+    let before = book.series;
+    let series = unmark_all(before, book.listed, book.day);
     let margin = variation_margin(book, series);
     let money = in_all(&margin);
     let cash = book.cash;
     let paid = pay(cash, money);
-    book.series = series;
-    book.intraday_done = true;
-    book.intraday_paid = margin;
-    book.cash = paid;
+    let blotter = book.blotter;
+    let after = Book {
+        day: book.day,
+        listed: book.listed,
+        series: series,
+        blotter: blotter,
+        trades: book.trades,
+        intraday_done: true,
+        intraday_paid: margin,
+        cash: paid,
+    };
     Step {
         answer: Answer::Done,
         money: money,
-        book: book,
+        book: after,
     }
 }
 
 // First exercise, then money, then expiry: each account receives, of all live series, the day's variation margin less what the
 // intraday session paid.
-pub fn evening(mut book: Book) -> Step
+pub fn evening(book: Book) -> Step
     requires { ⌜ Good book ⌝ }
     ensures { λ r. ⌜ r ≡ rule.stepOf book happening.Event.Evening ⌝ }
 {
@@ -64,22 +72,28 @@ pub fn evening(mut book: Book) -> Step
     if let Found::At(i) = first_unmarked(book) {
         return refused(book, Refusal::NoMark(i));
     }
-    let series = settle_all(book);
+    let before = book.series;
+    let series = settle_all(before, book.listed, book.day);
     let margin = variation_margin(book, series);
     let intraday = book.intraday_paid;
     let rest = less(margin, intraday);
     let money = in_all(&rest);
     let cash = book.cash;
     let paid = pay(cash, money);
-    book.series = series;
-    book.day = book.day + 1;
-    book.trades = 0;
-    book.intraday_done = false;
-    book.intraday_paid = [0i64; SERIES * ACCOUNTS];
-    book.cash = paid;
+    let blotter = book.blotter;
+    let after = Book {
+        day: book.day + 1,
+        listed: book.listed,
+        series: series,
+        blotter: blotter,
+        trades: 0,
+        intraday_done: false,
+        intraday_paid: [0i64; SERIES * ACCOUNTS],
+        cash: paid,
+    };
     Step {
         answer: Answer::Done,
         money: money,
-        book: book,
+        book: after,
     }
 }

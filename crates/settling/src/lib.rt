@@ -2,7 +2,6 @@
 pub mod expiry; // expiry.rt: one series after an evening
 
 use crate::expiry::settle;
-use book::state::Book;
 use marking::change::unmark;
 use series::state::Series;
 use terms::bounds::SERIES;
@@ -14,8 +13,7 @@ ghost use Rattle.terms.specs.Bounds.{finalDay};
 ghost use Rattle.series.specs.Changes.{unmarked, settled};
 ghost use Rattle.series.specs.Good.{GoodSeries};
 ghost use Rattle.series.specs.Series.{expired};
-ghost use Rattle.book.specs.Good.{Good};
-ghost use Rattle.book.specs.Sessions.{changed};
+ghost use Rattle.book.specs.Sessions.{Standing, eachLive};
 
 // A series as the intraday session leaves it, if it is live.
 fn after_intraday(s: Series, day: u32) -> Series
@@ -39,31 +37,29 @@ fn after_evening(s: Series, day: u32) -> Series
 }
 
 // All series as the intraday session leaves them.
-pub fn unmark_all(book: Book) -> [Series; SERIES]
-    requires { ⌜ Good book ⌝ }
-    ensures { λ r. ⌜ r ≡ changed book unmarked ⌝ }
+pub fn unmark_all(mut series: [Series; SERIES], listed: usize, day: u32) -> [Series; SERIES]
+    requires { ⌜ Standing series listed day ⌝ }
+    ensures { λ r. ⌜ r ≡ eachLive series listed day unmarked ⌝ }
 {
-    let mut out = book.series;
     let mut i: usize = 0;
-    while i < book.listed {
-        let s = book.series[i];
-        out[i] = after_intraday(s, book.day);
+    while i < listed {
+        let s = series[i];
+        series[i] = after_intraday(s, day);
         i += 1;
     }
-    out
+    series
 }
 
 // All series as the evening session leaves them.
-pub fn settle_all(book: Book) -> [Series; SERIES]
-    requires { ⌜ (Good book) × (book .day ≤ finalDay) ⌝ }
-    ensures { λ r. ⌜ r ≡ changed book (λ s. settled s (book .day)) ⌝ }
+pub fn settle_all(mut series: [Series; SERIES], listed: usize, day: u32) -> [Series; SERIES]
+    requires { ⌜ (Standing series listed day) × (day ≤ finalDay) ⌝ }
+    ensures { λ r. ⌜ r ≡ eachLive series listed day (λ s. settled s day) ⌝ }
 {
-    let mut out = book.series;
     let mut i: usize = 0;
-    while i < book.listed {
-        let s = book.series[i];
-        out[i] = after_evening(s, book.day);
+    while i < listed {
+        let s = series[i];
+        series[i] = after_evening(s, day);
         i += 1;
     }
-    out
+    series
 }

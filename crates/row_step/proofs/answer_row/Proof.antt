@@ -25,31 +25,15 @@ answer-requires c κs = search needs
 enum-known-event : tie.Need-enum-known-event
 enum-known-event c = search needs
 
--- ---- an event: a session, or another
-is-session-requires : tie.Need-is-session-requires
-is-session-requires c κs = search needs
+event-row-requires : tie.Need-event-row-requires
+event-row-requires c κs = search needs
 
-session-row-requires : tie.Need-session-row-requires
-session-row-requires c κs = search needs
-
+-- ---- a row that is refused
 same-length : tie.Need-same-length
 same-length c = search needs
 
 returns : tie.Need-returns
 returns c =
-    let w = c .before .before .before .before .before .before .before .before .before .before .before .wrapping-add-u64 in
-    let q = sym (c .before .before .before .before .before .before .before .before .before .read-row .ensures) ∙ c .before .before .before .before .before .before .before .event .given .1 in
-    row-put (w .ensures) q (c .before .before .session-row .ensures)
-
-event-row-requires : tie.Need-event-row-requires
-event-row-requires c κs = let s = c .before .before .before .before .before .before .before .before .before .before .before in (s .pre .0, s .pre .1, sym (c .before .before .is-session .ensures) ∙ c .before .if1 .left)
-
-same-length-2 : tie.Need-same-length-2
-same-length-2 c = search needs
-
--- ---- a row that is refused
-returns-2 : tie.Need-returns-2
-returns-2 c =
     let s = c .before .before .before .before .before .before .before .before .before .before .before .before .before in
     let b = s .args .replay .book in
     let w = c .before .before .before .before .before .before .before .before .before .before .wrapping-add-u64 in
@@ -64,14 +48,14 @@ returns-2 c =
       intact = refl;
     }
 
-same-length-3 : tie.Need-same-length-3
-same-length-3 c = search needs
+-- ---- an event
+same-length-2 : tie.Need-same-length-2
+same-length-2 c = search needs
 
--- ---- an event that is no session
-returns-3 : tie.Need-returns-3
-returns-3 c =
-    let w = c .before .before .before .before .before .before .before .before .before .before .before .wrapping-add-u64 in
-    let q = sym (c .before .before .before .before .before .before .before .before .before .read-row .ensures) ∙ c .before .before .before .before .before .before .before .event .given .1 in
+returns-2 : tie.Need-returns-2
+returns-2 c =
+    let w = c .before .before .before .before .before .before .before .before .before .wrapping-add-u64 in
+    let q = sym (c .before .before .before .before .before .before .before .read-row .ensures) ∙ c .before .before .before .before .before .event .given .1 in
     row-put (w .ensures) q (c .before .before .event-row .ensures)
 
 pub answer-row-spec : {M : Type 1} → statement M
@@ -84,12 +68,8 @@ answer-row-spec =
     of-row-requires
     answer-requires
     enum-known-event
-    is-session-requires
-    session-row-requires
+    event-row-requires
     same-length
     returns
-    event-row-requires
     same-length-2
-    returns-2
-    same-length-3
-    returns-3)
+    returns-2)

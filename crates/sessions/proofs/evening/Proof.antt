@@ -21,7 +21,7 @@ use Rattle.sessions.proofs.evening.Statement.{statement}
 use Rattle.sessions.proofs.evening.Tie as tie
 
 abbrev start : tie.After-settle-all → tie.Start
-start c = c .before .before .before .before .before .before
+start c = c .before .before .before .before .before .before .before
 
 -- ---- the margin, what is left of it, the money and the cash are the rule's
 margin : (c : tie.After-variation-margin) → c .variation-margin .result ≡ bySeries (paidFor (start (c .before) .args .book) (eveningMarginIn (start (c .before) .args .book)))
@@ -100,8 +100,8 @@ pay-requires c κs =
       rw (money (c .before)) (bounded-table accounts (eveningMoney (s .args .book)) (evening-within (s .args .book) (s .pre))),
     )
 
-add-book : tie.Need-add-book
-add-book c = search needs
+add-t19 : tie.Need-add-t19
+add-t19 c = search needs
 
 returns-3 : tie.Need-returns-3
 returns-3 c =
@@ -133,5 +133,5 @@ evening-spec =
     less-requires
     in-all-requires
     pay-requires
-    add-book
+    add-t19
     returns-3)

@@ -19,7 +19,7 @@ use Rattle.sessions.proofs.intraday.Statement.{statement}
 use Rattle.sessions.proofs.intraday.Tie as tie
 
 abbrev start : tie.After-unmark-all → tie.Start
-start c = c .before .before .before .before .before .before .before
+start c = c .before .before .before .before .before .before .before .before
 
 -- ---- the margin, the money and the cash are the rule's
 margin : (c : tie.After-variation-margin) → c .variation-margin .result ≡ bySeries (paidFor (start (c .before) .args .book) (intradayMoneyIn (start (c .before) .args .book)))
@@ -91,7 +91,7 @@ pay-requires c κs =
 
 returns-4 : tie.Need-returns-4
 returns-4 c =
-    let n = c .before .before in
+    let n = c .before .before .before in
     let k = startOf n .args .book in
     by-allowance _ Intraday
     (λ i. record {
@@ -99,7 +99,7 @@ returns-4 c =
       money = money n i;
       book =
           withCash (withIntraday (withAllSeries k (n .before .before .before .unmark-all .ensures i)) true (margin (n .before .before) i))
-          (cash c i);
+          (cash (c .before) i);
     })
     (past _ (search tests) (past _ (search tests) (search none-missing)))
 

@@ -4,43 +4,45 @@ use Prim.Native.Nat.{_-_, _<_}
 use native.Mathlib.Omega.{arith}
 use Rattle.series.specs.Changes.{settled}
 use Rattle.terms.specs.Bounds.{seriesRoom}
-use Rattle.settling.proofs.Changing.{Changing, changing-start, changing-room, changing-next, changing-all}
+use Rattle.settling.proofs.Changing.{Changing, changing-start, changing-room, changing-here, changing-next, changing-all}
 use Rattle.settling.proofs.settle_all.Statement.{statement}
 use Rattle.settling.proofs.settle_all.Tie as tie
 
 abbrev Inv-loop : tie.InvT-loop
-Inv-loop book out₀ i₀ out i = Changing book (λ s. settled s (book .day)) i out
+Inv-loop listed day series₀ i₀ series i = Changing series₀ listed day (λ s. settled s day) i series
 
 abbrev μ-loop : tie.MeasureT-loop
-μ-loop book out₀ i₀ out i = book .listed - i
+μ-loop listed day series₀ i₀ series i = listed - i
 
 module _ (c : tie.In-loop Inv-loop μ-loop) where
   abbrev start : tie.Start Inv-loop μ-loop
-  start = c .before .before .before
+  start = c .before .before
 
   room : c .before .loop .i < seriesRoom
-  room = let b = start .args .t1 in changing-room b (start .pre .0) (λ s. settled s (b .day)) (c .loop-test .taken)
+  room = let a = start .args in changing-room (a .t1) (a .listed) (a .day) (start .pre .0) (λ s. settled s (a .day)) (c .loop-test .taken)
 
 loop-holds : tie.Need-loop-holds Inv-loop μ-loop
-loop-holds c = let b = c .before .args .t1 in changing-start b (c .before .pre .0) (λ s. settled s (b .day))
+loop-holds c = let a = c .args in changing-start (a .t1) (a .listed) (a .day) (c .pre .0) (λ s. settled s (a .day))
 
 mul-s : tie.Need-mul-s Inv-loop μ-loop
 mul-s c = omega (arith, room c)
 
-element-copy-out-s : tie.Need-element-copy-out-s Inv-loop μ-loop
-element-copy-out-s c = room c
+array-copy-out-s : tie.Need-array-copy-out-s Inv-loop μ-loop
+array-copy-out-s c = room c
 
 after-evening-requires : tie.Need-after-evening-requires Inv-loop μ-loop
 after-evening-requires c κs =
     let l = c .before in
     let s = start l in
-    (s .pre .0 .series (l .before .loop .i) (room l), s .pre .1)
+    let a = s .args in
+    let here = changing-here (a .t1) (a .listed) (a .day) (s .pre .0) (λ t. settled t (a .day)) (l .before .loop .inv) in
+    (rw here (s .pre .0 .good (l .before .loop .i) (room l)), s .pre .1)
 
-mul-out : tie.Need-mul-out Inv-loop μ-loop
-mul-out c = omega (arith, room (c .before .before))
+mul-series : tie.Need-mul-series Inv-loop μ-loop
+mul-series c = omega (arith, room (c .before .before))
 
-array-set-from-out : tie.Need-array-set-from-out Inv-loop μ-loop
-array-set-from-out c = room (c .before .before)
+array-set-from-series : tie.Need-array-set-from-series Inv-loop μ-loop
+array-set-from-series c = room (c .before .before)
 
 add-i : tie.Need-add-i Inv-loop μ-loop
 add-i c = search needs
@@ -51,14 +53,14 @@ loop-less c = search needs
 loop-again : tie.Need-loop-again Inv-loop μ-loop
 loop-again c =
     let l = c .before .before in
-    let b = start l .args .t1 in
-    changing-next b (start l .pre .0) (λ s. settled s (b .day)) (l .before .loop .inv) (l .loop-test .taken) _ (c .after-evening .ensures)
+    let a = start l .args in
+    changing-next (a .t1) (a .listed) (a .day) (start l .pre .0) (λ s. settled s (a .day)) (l .before .loop .inv) (l .loop-test .taken) _ (c .after-evening .ensures)
 
 returns : tie.Need-returns Inv-loop μ-loop
 returns c =
-    let s = c .before .before .before in
-    let b = s .args .t1 in
-    changing-all b (s .pre .0) (λ s. settled s (b .day)) (c .before .loop .inv) (omega (arith, c .loop-test .left))
+    let s = c .before .before in
+    let a = s .args in
+    changing-all (a .t1) (a .listed) (a .day) (s .pre .0) (λ s. settled s (a .day)) (c .before .loop .inv) (omega (arith, c .loop-test .left))
 
 pub settle-all-spec : {M : Type 1} → statement M
 settle-all-spec =
@@ -68,10 +70,10 @@ settle-all-spec =
     μ-loop
     loop-holds
     mul-s
-    element-copy-out-s
+    array-copy-out-s
     after-evening-requires
-    mul-out
-    array-set-from-out
+    mul-series
+    array-set-from-series
     add-i
     loop-less
     loop-again

@@ -9,35 +9,35 @@ use Rattle.settling.proofs.unmark_all.Statement.{statement}
 use Rattle.settling.proofs.unmark_all.Tie as tie
 
 abbrev Inv-loop : tie.InvT-loop
-Inv-loop book out₀ i₀ out i = Changing book unmarked i out
+Inv-loop listed day series₀ i₀ series i = Changing series₀ listed day unmarked i series
 
 abbrev μ-loop : tie.MeasureT-loop
-μ-loop book out₀ i₀ out i = book .listed - i
+μ-loop listed day series₀ i₀ series i = listed - i
 
 module _ (c : tie.In-loop Inv-loop μ-loop) where
   abbrev start : tie.Start Inv-loop μ-loop
-  start = c .before .before .before
+  start = c .before .before
 
   room : c .before .loop .i < seriesRoom
-  room = let b = start .args .t1 in changing-room b (start .pre) unmarked (c .loop-test .taken)
+  room = let a = start .args in changing-room (a .t1) (a .listed) (a .day) (start .pre) unmarked (c .loop-test .taken)
 
 loop-holds : tie.Need-loop-holds Inv-loop μ-loop
-loop-holds c = let b = c .before .args .t1 in changing-start b (c .before .pre) unmarked
+loop-holds c = let a = c .args in changing-start (a .t1) (a .listed) (a .day) (c .pre) unmarked
 
 mul-s : tie.Need-mul-s Inv-loop μ-loop
 mul-s c = omega (arith, room c)
 
-element-copy-out-s : tie.Need-element-copy-out-s Inv-loop μ-loop
-element-copy-out-s c = room c
+array-copy-out-s : tie.Need-array-copy-out-s Inv-loop μ-loop
+array-copy-out-s c = room c
 
 after-intraday-requires : tie.Need-after-intraday-requires Inv-loop μ-loop
 after-intraday-requires c κs = search needs
 
-mul-out : tie.Need-mul-out Inv-loop μ-loop
-mul-out c = omega (arith, room (c .before .before))
+mul-series : tie.Need-mul-series Inv-loop μ-loop
+mul-series c = omega (arith, room (c .before .before))
 
-array-set-from-out : tie.Need-array-set-from-out Inv-loop μ-loop
-array-set-from-out c = room (c .before .before)
+array-set-from-series : tie.Need-array-set-from-series Inv-loop μ-loop
+array-set-from-series c = room (c .before .before)
 
 add-i : tie.Need-add-i Inv-loop μ-loop
 add-i c = search needs
@@ -48,14 +48,14 @@ loop-less c = search needs
 loop-again : tie.Need-loop-again Inv-loop μ-loop
 loop-again c =
     let l = c .before .before in
-    let b = start l .args .t1 in
-    changing-next b (start l .pre) unmarked (l .before .loop .inv) (l .loop-test .taken) _ (c .after-intraday .ensures)
+    let a = start l .args in
+    changing-next (a .t1) (a .listed) (a .day) (start l .pre) unmarked (l .before .loop .inv) (l .loop-test .taken) _ (c .after-intraday .ensures)
 
 returns : tie.Need-returns Inv-loop μ-loop
 returns c =
-    let s = c .before .before .before in
-    let b = s .args .t1 in
-    changing-all b (s .pre) unmarked (c .before .loop .inv) (omega (arith, c .loop-test .left))
+    let s = c .before .before in
+    let a = s .args in
+    changing-all (a .t1) (a .listed) (a .day) (s .pre) unmarked (c .before .loop .inv) (omega (arith, c .loop-test .left))
 
 pub unmark-all-spec : {M : Type 1} → statement M
 unmark-all-spec =
@@ -65,10 +65,10 @@ unmark-all-spec =
     μ-loop
     loop-holds
     mul-s
-    element-copy-out-s
+    array-copy-out-s
     after-intraday-requires
-    mul-out
-    array-set-from-out
+    mul-series
+    array-set-from-series
     add-i
     loop-less
     loop-again
