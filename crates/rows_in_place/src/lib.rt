@@ -38,20 +38,19 @@ pub fn series_rows(input: &[u8], start: usize, out: &mut [u8], replay: Replay) -
             listed: book.listed,
             trades: book.trades,
         };
-        let n = apply::next_record(book.trades);
-        let standing = book.blotter[n];
-        let change = in_place::change(today, listing, mark, standing, &s.positions, event);
-        let effect = change.effect;
+        let effect = effect::effect(today, listing, &s.positions, event);
         apply::move_positions(&mut s.positions, effect);
         apply::set_request(&mut s.requests, effect);
         apply::set_decline(&mut s.declined, effect);
-        let marked = change.mark;
+        let marked = apply::mark(mark, effect);
         s.mark = marked;
         book.series[series] = s;
-        let entry = change.entry;
+        let n = apply::next_record(book.trades);
+        let standing = book.blotter[n];
+        let entry = apply::entry(standing, effect);
         book.blotter[n] = entry;
-        book.trades = change.trades;
-        let answer = change.answer;
+        book.trades = apply::counted(book.trades, effect);
+        let answer = apply::answer(effect);
         row = std::num::wrapping_add_u64(row, 1);
         let waiting = put_answer(out, at, row, answer, intact);
         at = waiting.at;

@@ -3,7 +3,7 @@ use Prim.Native.Nat.{_<_}
 use native.Mathlib.Omega.{arith}
 use Rattle.terms.specs.Bounds.{blotterRoom, maxPosition}
 use Rattle.integer.specs.Bounds.{Bounded}
-use Rattle.book.specs.Effects.{Fits, Changed}
+use Rattle.book.specs.Effects.{Fits}
 use Rattle.book.specs.State.{seriesAt, tradeAt, todayOf}
 use Rattle.book.proofs.Effects.{next-record-within, effect-fits, step-stored}
 use borrow.Author.Needs.{needs}
@@ -83,15 +83,16 @@ returns c =
     let marked = recorded .before in
     let h = marked .before .before .before .before .before .before .before in
     let s = start h in
-    step-stored (s .args .t1) (s .args .event) _ _ (s .pre .1) (s .pre .2) (recorded .next-record .ensures)
+    step-stored (s .args .t1) (s .args .event) _ _ (s .pre .1) (s .pre .2) (recorded .next-record .ensures) _ (h .effect .ensures)
     (record {
-      effect = h .effect .ensures;
+      answer = c .answer .ensures;
+      moved = marked .before .before .before .before .before .move-positions .ensures;
+      requested = marked .before .before .before .set-request .ensures;
+      declining = marked .before .set-decline .ensures;
       mark = marked .mark2 .ensures;
       recorded = entered .entry .ensures;
       counted = c .before .counted .ensures;
-      answer = c .answer .ensures;
     })
-    (marked .before .before .before .before .before .move-positions .ensures) (marked .before .before .before .set-request .ensures) (marked .before .set-decline .ensures)
 
 pub on-series-spec : {M : Type 1} → statement M
 on-series-spec =

@@ -16,7 +16,7 @@ use Rattle.book.specs.declared.state.Book.{Book}
 use Rattle.book.specs.declared.state.Event.{Event}
 use Rattle.book.specs.declared.state.Step.{Step}
 use Rattle.book.proofs.Keeps.{stays-good}
-use Rattle.book.proofs.Effects.{next-record-within, change-fits, step-stored}
+use Rattle.book.proofs.Effects.{next-record-within, effect-fits, step-stored}
 use Rattle.stream.specs.Parts.{FirstPassed}
 use Rattle.stream.specs.declared.types.Replay.{Replay}
 use Rattle.stream.proofs.Books.{book-accepted, series-line}
@@ -58,15 +58,15 @@ module _ (c : tie.After-known-told Inv-loop μ-loop) where
   row : Found input (top .loop .from) series-at event (c .before .series .given .0 .1 .1 .0)
   row = found _ _ (c .before .before .before .series-row .ensures) _ _ _ (c .before .series .given .1)
 
--- where the change that its event makes is known
-abbrev row-at : tie.After-change Inv-loop μ-loop → tie.After-known-told Inv-loop μ-loop
-row-at c = c .before .before .before .before .before .before .before .before
+-- where the effect of its event is known
+abbrev row-at : tie.After-effect Inv-loop μ-loop → tie.After-known-told Inv-loop μ-loop
+row-at c = c .before .before .before .before .before .before
 
-bounded : (c : tie.After-change Inv-loop μ-loop) → Bounded maxPosition (seriesAt (top (row-at c) .loop .book) (series-at (row-at c)) .positions)
-bounded c = good (row-at c) .series (series-at (row-at c)) (row (row-at c) .room) .positions .bounded
+bounded : (o : tie.After-known-told Inv-loop μ-loop) → Bounded maxPosition (seriesAt (top o .loop .book) (series-at o) .positions)
+bounded o = good o .series (series-at o) (row o .room) .positions .bounded
 
-fits : (c : tie.After-change Inv-loop μ-loop) → Fits (c .change .result .effect)
-fits c = change-fits (c .change .ensures) (bounded c)
+fits : (c : tie.After-effect Inv-loop μ-loop) → Fits (c .effect .result)
+fits c = rw (c .effect .ensures) (effect-fits _ _ _ (bounded (row-at c)) (event (row-at c)))
 
 record-within : (c : tie.After-next-record Inv-loop μ-loop) → c .next-record .result < blotterRoom
 record-within c = rw (c .next-record .ensures) (next-record-within _)
@@ -102,6 +102,28 @@ mul-s c = omega (arith, row c .room)
 element-copy-out-s : tie.Need-element-copy-out-s Inv-loop μ-loop
 element-copy-out-s c = row c .room
 
+effect-requires : tie.Need-effect-requires Inv-loop μ-loop
+effect-requires c κs = let o = c .before .before .before .before .before in rw (← row o .series) (good o .tick (series-at o))
+
+move-positions-requires : tie.Need-move-positions-requires Inv-loop μ-loop
+move-positions-requires c κs = (fits (c .before), bounded (row-at (c .before)))
+
+set-request-requires : tie.Need-set-request-requires Inv-loop μ-loop
+set-request-requires c κs = fits (c .before .before .before)
+
+set-decline-requires : tie.Need-set-decline-requires Inv-loop μ-loop
+set-decline-requires c κs = fits (c .before .before .before .before .before)
+
+mark-requires : tie.Need-mark-requires Inv-loop μ-loop
+mark-requires c κs = search needs
+
+-- ---- and stored
+mul-t26 : tie.Need-mul-t26 Inv-loop μ-loop
+mul-t26 c = omega (arith, row (row-at (c .before .before .before .before .before .before .before)) .room)
+
+element-set-from-book : tie.Need-element-set-from-book Inv-loop μ-loop
+element-set-from-book c = row (row-at (c .before .before .before .before .before .before .before)) .room
+
 next-record-requires : tie.Need-next-record-requires Inv-loop μ-loop
 next-record-requires c κs = search needs
 
@@ -111,36 +133,20 @@ mul-standing c = omega (arith, record-within c)
 element-copy-out-standing : tie.Need-element-copy-out-standing Inv-loop μ-loop
 element-copy-out-standing c = record-within c
 
-change-requires : tie.Need-change-requires Inv-loop μ-loop
-change-requires c κs =
-    let o = c .before .before .before .before .before .before .before in
-    record {
-      bounded = good o .series (series-at o) (row o .room) .positions .bounded;
-      tick = rw (← row o .series) (good o .tick (series-at o));
-      trades = good o .trades;
-    }
-
-move-positions-requires : tie.Need-move-positions-requires Inv-loop μ-loop
-move-positions-requires c κs = (fits (c .before), bounded (c .before))
-
-set-request-requires : tie.Need-set-request-requires Inv-loop μ-loop
-set-request-requires c κs = fits (c .before .before .before)
-
-set-decline-requires : tie.Need-set-decline-requires Inv-loop μ-loop
-set-decline-requires c κs = fits (c .before .before .before .before .before)
-
--- ---- and stored
-mul-t27 : tie.Need-mul-t27 Inv-loop μ-loop
-mul-t27 c = omega (arith, row (row-at (c .before .before .before .before .before .before .before)) .room)
-
-element-set-from-book : tie.Need-element-set-from-book Inv-loop μ-loop
-element-set-from-book c = row (row-at (c .before .before .before .before .before .before .before)) .room
+entry-requires : tie.Need-entry-requires Inv-loop μ-loop
+entry-requires c κs = search needs
 
 mul-entry : tie.Need-mul-entry Inv-loop μ-loop
-mul-entry c = omega (arith, record-within (c .before .before .before .before .before .before .before .before .before .before .before .before))
+mul-entry c = omega (arith, record-within (c .before .before))
 
 element-set-from-entry : tie.Need-element-set-from-entry Inv-loop μ-loop
-element-set-from-entry c = record-within (c .before .before .before .before .before .before .before .before .before .before .before .before)
+element-set-from-entry c = record-within (c .before .before)
+
+counted-requires : tie.Need-counted-requires Inv-loop μ-loop
+counted-requires c κs = good (row-at (c .before .before .before .before .before .before .before .before .before .before)) .trades
+
+answer-requires : tie.Need-answer-requires Inv-loop μ-loop
+answer-requires c κs = search needs
 
 -- ---- the answer, and the next turn
 wrapping-add-u64-requires : tie.Need-wrapping-add-u64-requires Inv-loop μ-loop
@@ -148,24 +154,36 @@ wrapping-add-u64-requires c κs = search needs
 
 put-answer-requires : tie.Need-put-answer-requires Inv-loop μ-loop
 put-answer-requires c κs =
-    let r = top (row-at (c .before .before .before .before .before .before .before .before .before .before)) .loop .inv .1 .ready in
+    let r = top (row-at (c .before .before .before .before .before .before .before .before .before .before .before .before .before .before)) .loop .inv .1 .ready in
     (r .waiting, r .room)
 
 loop-less : tie.Need-loop-less Inv-loop μ-loop
 loop-less c =
-    let r = row (row-at (c .before .before .before .before .before .before .before .before .before .before .before .before .before)) in
+    let r = row (row-at (c .before .before .before .before .before .before .before .before .before .before .before .before .before .before .before .before .before)) in
     omega (arith, r .later, r .within)
 
 loop-again : tie.Need-loop-again Inv-loop μ-loop
 loop-again c =
-    let h = c .before .before .before .before .before .before .before .before .before .before .before .before .before in
+    let answered = c .before .before .before .before .before in
+    let entered = answered .before .before in
+    let recorded = entered .before .before in
+    let marked = recorded .before in
+    let h = marked .before .before .before .before .before .before .before in
     let o = row-at h in
     let l = top o .loop in
     let p = l .inv .1 in
     let r = row o in
     let s =
-    step-stored (l .book) (event o) _ _ (r .series) (r .room) (h .before .before .before .before .next-record .ensures) (h .change .ensures)
-    (c .before .before .before .before .before .before .before .before .before .before .before .move-positions .ensures) (c .before .before .before .before .before .before .before .before .before .set-request .ensures) (c .before .before .before .before .before .before .before .set-decline .ensures) in
+        step-stored (l .book) (event o) _ _ (r .series) (r .room) (recorded .next-record .ensures) _ (h .effect .ensures)
+        (record {
+          answer = answered .answer .ensures;
+          moved = marked .before .before .before .before .before .move-positions .ensures;
+          requested = marked .before .before .before .set-request .ensures;
+          declining = marked .before .set-decline .ensures;
+          mark = marked .mark2 .ensures;
+          recorded = entered .entry .ensures;
+          counted = answered .before .counted .ensures;
+        }) in
     let m = c .before .before .before .before .wrapping-add-u64 in
     let w = c .before .before .put-answer in
     let k : length (w .last .0) ≡ length (l .out) = w .kept .0 in (
@@ -196,17 +214,21 @@ series-rows-spec =
     returns
     mul-s
     element-copy-out-s
-    next-record-requires
-    mul-standing
-    element-copy-out-standing
-    change-requires
+    effect-requires
     move-positions-requires
     set-request-requires
     set-decline-requires
-    mul-t27
+    mark-requires
+    mul-t26
     element-set-from-book
+    next-record-requires
+    mul-standing
+    element-copy-out-standing
+    entry-requires
     mul-entry
     element-set-from-entry
+    counted-requires
+    answer-requires
     wrapping-add-u64-requires
     put-answer-requires
     loop-less
