@@ -7,20 +7,20 @@ use borrow.Author.Needs.{needs}
 use Rattle.decimal.specs.Put.{Put}
 use Rattle.terms.specs.Bounds.{seriesRoom}
 use Rattle.report.specs.Report.{futuresIn, seriesLines, accountsRoom}
-use Rattle.report.specs.Lines.{joined}
-use Rattle.report.proofs.Joined.{joined-put, joined-next}
+use Rattle.report.specs.Lines.{inTurn}
+use Rattle.report.proofs.InTurn.{in-turn-put, in-turn-next}
 use Rattle.row_lines.proofs.futures.Statement.{statement}
 use Rattle.row_lines.proofs.futures.Tie as tie
 
 abbrev Inv-loop : tie.InvT-loop
 Inv-loop out₀ place row before after next₀ i₀ out next i =
-    (i ≤ seriesRoom) × (length out ≡ length out₀) × (next ≤ place + i * accountsRoom) × Put out₀ place (joined i (λ i. seriesLines row i (futuresIn before i) (futuresIn after i))) out next
+    (i ≤ seriesRoom) × (length out ≡ length out₀) × (next ≤ place + i * accountsRoom) × Put out₀ place (inTurn i (λ i. seriesLines row i (futuresIn before i) (futuresIn after i))) out next
 
 abbrev μ-loop : tie.MeasureT-loop
 μ-loop out₀ place row before after next₀ i₀ out next i = seriesRoom - i
 
 loop-holds : tie.Need-loop-holds Inv-loop μ-loop
-loop-holds c = (omega arith, refl, omega arith, joined-put _ _ _)
+loop-holds c = (omega arith, refl, omega arith, in-turn-put _ _ _)
 
 mul-old : tie.Need-mul-old Inv-loop μ-loop
 mul-old c = search needs
@@ -50,7 +50,7 @@ loop-again : tie.Need-loop-again Inv-loop μ-loop
 loop-again c =
     let loop = c .before .before .before .before .before .before .before .before .before in
     let call = c .before .before .series-futures .ensures in
-    (omega arith, search needs, omega (arith, call .1), joined-next (loop .loop .i) _ (loop .loop .inv .3) (call .0))
+    (omega arith, search needs, omega (arith, call .1), in-turn-next (loop .loop .i) _ (loop .loop .inv .3) (call .0))
 
 same-length : tie.Need-same-length Inv-loop μ-loop
 same-length c = c .before .loop .inv .1

@@ -12,15 +12,15 @@ use Rattle.decimal.specs.Put.{Put}
 use Rattle.integer.specs.Table.{at}
 use Rattle.terms.specs.Bounds.{accounts}
 use Rattle.report.specs.Report.{moneyLine}
-use Rattle.report.specs.Lines.{lineRoom, joined}
+use Rattle.report.specs.Lines.{lineRoom, inTurn}
 use Rattle.report.proofs.Fields.{text-of}
-use Rattle.report.proofs.Joined.{joined-put, joined-next, element-fits}
+use Rattle.report.proofs.InTurn.{in-turn-put, in-turn-next, element-fits}
 use Rattle.row_lines.proofs.money.Statement.{statement}
 use Rattle.row_lines.proofs.money.Tie as tie
 
 abbrev Inv-loop : tie.InvT-loop
 Inv-loop out₀ place row money next₀ a₀ out next a =
-    (a ≤ accounts) × (length out ≡ length out₀) × (next ≤ place + a * lineRoom) × Put out₀ place (joined a (λ a. moneyLine row a (at money a))) out next
+    (a ≤ accounts) × (length out ≡ length out₀) × (next ≤ place + a * lineRoom) × Put out₀ place (inTurn a (λ a. moneyLine row a (at money a))) out next
 
 abbrev μ-loop : tie.MeasureT-loop
 μ-loop out₀ place row money next₀ a₀ out next a = accounts - a
@@ -30,7 +30,7 @@ amount-fits : (c : tie.Start Inv-loop μ-loop) (a : ℕ) → SFits w64 (at (c .a
 amount-fits c a = element-fits w64 (lit< tt) accounts (c .args .t4) _ (c .good .1 .1 .1 .0) a
 
 loop-holds : tie.Need-loop-holds Inv-loop μ-loop
-loop-holds c = (omega arith, refl, omega arith, joined-put _ _ _)
+loop-holds c = (omega arith, refl, omega arith, in-turn-put _ _ _)
 
 cast-money : tie.Need-cast-money Inv-loop μ-loop
 cast-money c = search needs
@@ -56,7 +56,7 @@ loop-again c =
     let loop = c .before .before .before .before .before .before in
     let a = loop .loop .a in
     let put = text-of (moneyLine (start .args .row) a) (toZ-ofZ (amount-fits start a)) (c .before .before .money .ensures .0) in
-    (omega arith, search needs, omega (arith, c .before .before .money .ensures .1), joined-next a _ (loop .loop .inv .3) put)
+    (omega arith, search needs, omega (arith, c .before .before .money .ensures .1), in-turn-next a _ (loop .loop .inv .3) put)
 
 same-length : tie.Need-same-length Inv-loop μ-loop
 same-length c = c .before .loop .inv .1

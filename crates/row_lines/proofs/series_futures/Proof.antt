@@ -12,16 +12,16 @@ use Rattle.integer.proofs.Machine.{Reads, any, same, minus, local, fits}
 use Rattle.terms.specs.Bounds.{accounts}
 use Rattle.places.specs.Places.{places, ofAccount}
 use Rattle.places.proofs.Places.{of-account-within}
-use Rattle.report.specs.Report.{arisen, futuresLine, seriesLines}
-use Rattle.report.specs.Lines.{lineRoom, joined}
+use Rattle.report.specs.Report.{added, futuresLine, seriesLines}
+use Rattle.report.specs.Lines.{lineRoom, inTurn}
 use Rattle.report.proofs.Fields.{text-of}
-use Rattle.report.proofs.Joined.{joined-put, joined-next, element-fits}
+use Rattle.report.proofs.InTurn.{in-turn-put, in-turn-next, element-fits}
 use Rattle.row_lines.proofs.series_futures.Statement.{statement}
 use Rattle.row_lines.proofs.series_futures.Tie as tie
 
 abbrev Inv-loop : tie.InvT-loop
 Inv-loop out₀ place row i before after next₀ a₀ out next a =
-    (a ≤ accounts) × (length out ≡ length out₀) × (next ≤ place + a * lineRoom) × Put out₀ place (joined a (λ a. futuresLine row i a (arisen before after a))) out next
+    (a ≤ accounts) × (length out ≡ length out₀) × (next ≤ place + a * lineRoom) × Put out₀ place (inTurn a (λ a. futuresLine row i a (added before after a))) out next
 
 abbrev μ-loop : tie.MeasureT-loop
 μ-loop out₀ place row i before after next₀ a₀ out next a = accounts - a
@@ -44,11 +44,11 @@ module _ (c : tie.After-of-account2 Inv-loop μ-loop) where
       same (c .before .before .of-account .result) (c .before .before .of-account .ensures)
       (of-account-within _ (λ k. any w32 (element-fits w32 (lit< tt) places (start .args .t6) _ (start .good .1 .1 .1 .1 .1 .0) k) .bound) _)
 
-  abbrev difference : Reads 4294967296 (arisen (start .args .t5) (start .args .t6) (turn .before .loop .a))
+  abbrev difference : Reads 4294967296 (added (start .args .t5) (start .args .t6) (turn .before .loop .a))
   difference = minus (local w64 later tt) (local w64 earlier tt)
 
 loop-holds : tie.Need-loop-holds Inv-loop μ-loop
-loop-holds c = (omega arith, refl, omega arith, joined-put _ _ _)
+loop-holds c = (omega arith, refl, omega arith, in-turn-put _ _ _)
 
 of-account-requires : tie.Need-of-account-requires Inv-loop μ-loop
 of-account-requires c κs = c .before .loop-test .taken
@@ -77,7 +77,7 @@ loop-again c =
     let loop = turn l .before in
     let a = loop .loop .a in
     let put = text-of (futuresLine (start l .args .row) (start l .args .i) a) (local w64 (difference l) tt .is) (c .before .before .futures .ensures .0) in
-    (omega arith, search needs, omega (arith, c .before .before .futures .ensures .1), joined-next a _ (loop .loop .inv .3) put)
+    (omega arith, search needs, omega (arith, c .before .before .futures .ensures .1), in-turn-next a _ (loop .loop .inv .3) put)
 
 same-length : tie.Need-same-length Inv-loop μ-loop
 same-length c = c .before .loop .inv .1

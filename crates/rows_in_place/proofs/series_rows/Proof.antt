@@ -174,16 +174,16 @@ loop-again c =
     let p = l .inv .1 in
     let r = row o in
     let s =
-        step-stored (l .book) (event o) _ _ (r .series) (r .room) (recorded .next-record .ensures) _ (h .effect .ensures)
-        (record {
-          answer = answered .answer .ensures;
-          moved = marked .before .before .before .before .before .move-positions .ensures;
-          requested = marked .before .before .before .set-request .ensures;
-          declining = marked .before .set-decline .ensures;
-          mark = marked .mark2 .ensures;
-          recorded = entered .entry .ensures;
-          counted = answered .before .counted .ensures;
-        }) in
+    step-stored (l .book) (event o) _ _ (r .series) (r .room) (recorded .next-record .ensures) _ (h .effect .ensures)
+    (record {
+      answer = answered .answer .ensures;
+      moved = marked .before .before .before .before .before .move-positions .ensures;
+      requested = marked .before .before .before .set-request .ensures;
+      declining = marked .before .set-decline .ensures;
+      mark = marked .mark2 .ensures;
+      recorded = entered .entry .ensures;
+      counted = answered .before .counted .ensures;
+    }) in
     let m = c .before .before .before .before .wrapping-add-u64 in
     let w = c .before .before .put-answer in
     let k : length (w .last .0) ≡ length (l .out) = w .kept .0 in (
