@@ -10,7 +10,7 @@ use Rattle.decimal.specs.Put.{Put}
 use Rattle.integer.specs.Table.{at}
 use Rattle.integer.proofs.Machine.{Reads, any, same, minus, local, fits}
 use Rattle.terms.specs.Bounds.{accounts}
-use Rattle.places.specs.Places.{places, ofAccount}
+use Rattle.places.specs.Places.{sections, places, ofAccount}
 use Rattle.places.proofs.Places.{of-account-within}
 use Rattle.report.specs.Report.{added, futuresLine, seriesLines}
 use Rattle.report.specs.Lines.{lineRoom, inTurn}
@@ -27,6 +27,9 @@ abbrev μ-loop : tie.MeasureT-loop
 μ-loop out₀ place row i before after next₀ a₀ out next a = accounts - a
 
 -- the futures at each place are numbers of 32 bits, and the difference of an account's is one of 64
+abbrev most : ℕ
+most = sections * 2147483648
+
 module _ (c : tie.After-of-account2 Inv-loop μ-loop) where
   abbrev turn : tie.In-loop Inv-loop μ-loop
   turn = c .before .before .before .before
@@ -34,17 +37,17 @@ module _ (c : tie.After-of-account2 Inv-loop μ-loop) where
   abbrev start : tie.Start Inv-loop μ-loop
   start = turn .before .before .before
 
-  abbrev earlier : Reads 2147483648 (ofAccount (at (start .args .t5)) (turn .before .loop .a))
+  abbrev earlier : Reads most (ofAccount (at (start .args .t5)) (turn .before .loop .a))
   earlier =
       same (c .of-account2 .result) (c .of-account2 .ensures)
       (of-account-within _ (λ k. any w32 (element-fits w32 (lit< tt) places (start .args .t5) _ (start .good .1 .1 .1 .1 .0) k) .bound) _)
 
-  abbrev later : Reads 2147483648 (ofAccount (at (start .args .t6)) (turn .before .loop .a))
+  abbrev later : Reads most (ofAccount (at (start .args .t6)) (turn .before .loop .a))
   later =
       same (c .before .before .of-account .result) (c .before .before .of-account .ensures)
       (of-account-within _ (λ k. any w32 (element-fits w32 (lit< tt) places (start .args .t6) _ (start .good .1 .1 .1 .1 .1 .0) k) .bound) _)
 
-  abbrev difference : Reads 4294967296 (added (start .args .t5) (start .args .t6) (turn .before .loop .a))
+  abbrev difference : Reads (most + most) (added (start .args .t5) (start .args .t6) (turn .before .loop .a))
   difference = minus (local w64 later tt) (local w64 earlier tt)
 
 loop-holds : tie.Need-loop-holds Inv-loop μ-loop
