@@ -52,11 +52,15 @@ pub fn empty() -> Book
     }
 }
 
-// An event on series i, made in place.
-fn on_series(mut book: Book, i: usize, event: Event) -> Step
-    requires { ⌜ (Good book) × (i ≡ seriesOf event) × (i < seriesRoom) ⌝ }
-    ensures { λ r. ⌜ r ≡ stepOf book event ⌝ }
+// What the book answers to an event. An event on one series is made in place; `whole` has the others.
+pub fn step(mut book: Book, event: Event) -> Step
+    requires { ⌜ Good book ⌝ }
+    ensures { λ r. ⌜ (r ≡ stepOf book event) × Good (r .book) ⌝ }
 {
+    let i = effect::series_of(event);
+    if SERIES <= i {
+        return whole::whole(book, event);
+    }
     let mut s = book.series[i];
     let listing = s.listing;
     let mark = s.mark;
@@ -82,16 +86,4 @@ fn on_series(mut book: Book, i: usize, event: Event) -> Step
         money: [0i64; ACCOUNTS],
         book: book,
     }
-}
-
-// What the book answers to an event.
-pub fn step(book: Book, event: Event) -> Step
-    requires { ⌜ Good book ⌝ }
-    ensures { λ r. ⌜ (r ≡ stepOf book event) × Good (r .book) ⌝ }
-{
-    let i = effect::series_of(event);
-    if SERIES <= i {
-        return whole::whole(book, event);
-    }
-    on_series(book, i, event)
 }
