@@ -1,4 +1,4 @@
-//! 01, "Events": the book, its seven events and the two sessions.
+//! RULES, "Events": the book, its seven events and the two sessions.
 
 use std::cmp::Reverse;
 use std::ops::RangeInclusive;
@@ -6,7 +6,7 @@ use std::ops::RangeInclusive;
 use crate::refusal::Refusal;
 use crate::value::{coefficient, value};
 
-// 01, "Units and bounds".
+// RULES, "Units and bounds".
 pub const ACCOUNTS: usize = 64;
 pub const SERIES: usize = 8;
 pub const LAST_DAY: u64 = 999;
@@ -373,7 +373,7 @@ impl Series {
     }
 }
 
-/// 01, "Assignment": shares `exercised` contracts out to the writers, who are `short` so much, in proportion; what is
+/// RULES, "Assignment": shares `exercised` contracts out to the writers, who are `short` so much, in proportion; what is
 /// left over goes one each to the largest remainders, equal ones to the lower account.
 pub fn assign(exercised: i64, short: &[i64; ACCOUNTS]) -> [i64; ACCOUNTS] {
     let all: i64 = short.iter().sum();

@@ -1,4 +1,4 @@
-//! 01, "Contract codes": the reader and the writer.
+//! RULES, "Contract codes": the reader and the writer.
 
 use crate::book::{Category, OptionType};
 use crate::refusal::Refusal;

@@ -1,7 +1,7 @@
 //! The clearing book for futures-style options once more, in plain Rust.
 //!
-//! Written from document 01 and never from the proved sources, so that these have a second hand to be compared with,
-//! and a speed to be measured against. Comments name the section of 01 that a piece of code follows.
+//! Written from the rules and never from the proved sources, so that these have a second hand to be compared with,
+//! and a speed to be measured against. Comments name the section of docs/RULES.md that a piece of code follows.
 
 pub mod book;
 pub mod codes;

@@ -127,7 +127,7 @@ impl Style {
     }
 }
 
-/// Numbers at and beside the bounds of 01, and where narrower numbers would wrap.
+/// Numbers at and beside the bounds, and where narrower numbers would wrap.
 const TRICKY: [u64; 44] = [
     0,
     1,

@@ -1,4 +1,4 @@
-//! 01, "Rows": the output lines.
+//! RULES, "Output lines".
 
 use crate::book::{Done, Session};
 use crate::refusal::Refusal;

@@ -1,4 +1,4 @@
-//! 01, "Refusals".
+//! RULES, "Refusals".
 
 #[derive(Clone, Copy, Debug, PartialEq, Eq)]
 pub enum Refusal {
@@ -26,7 +26,7 @@ pub enum Refusal {
 }
 
 impl Refusal {
-    /// The number in 01's table.
+    /// The number in the table.
     pub fn number(self) -> u64 {
         match self {
             Refusal::Finished => 1,

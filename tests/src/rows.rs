@@ -1,4 +1,4 @@
-//! 01, "Rows": cutting the input into rows, and reading a row into an event.
+//! RULES, "Rows": cutting the input into rows, and reading a row into an event.
 
 use std::io::{self, ErrorKind, Read};
 

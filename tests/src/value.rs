@@ -1,4 +1,4 @@
-//! 01, "Value of a price".
+//! RULES, "Value of a price".
 
 /// The whole number nearest to `dividend / divisor`, a half upwards.
 pub fn rounded(dividend: u64, divisor: u64) -> u64 {

@@ -1,4 +1,4 @@
-//! 01's worked example, and the ends that an input can have.
+//! The worked example of crates/replay/stdin, and the ends that an input can have.
 
 use second::replay;
 

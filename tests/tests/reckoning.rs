@@ -1,5 +1,5 @@
-//! 01, "The reckoning": fed the events and whether each was carried out, and nothing that the book stores, it finds the
-//! book's positions, futures and cash. So the second implementation is held to 01 twice, once by its steps and once by
+//! RULES, "The reckoning": fed the events and whether each was carried out, and nothing that the book stores, it finds the
+//! book's positions, futures and cash. So the second implementation is held to the rules twice, once by its steps and once by
 //! what they must come to.
 
 use second::book::{assign, Book, Event, OptionType, ACCOUNTS};

@@ -1,4 +1,4 @@
--- Sessions with no live series, and series without an intraday session (01, "Events" and "Evening").
+-- Sessions with no live series, and series without an intraday session (RULES, "Events" and "Evening session").
 use mathlib.Core.Path.{_≡_, refl, sym, ap, _∙_}
 use mathlib.Core.Logic.{_≢_}
 use mathlib.Core.Bool.{false}

@@ -1,4 +1,4 @@
--- Under which conditions an event is refused (01, "Refusals"): for each event one chain, in the order of their numbers. "The lowest number
+-- Under which conditions an event is refused (RULES, "Refusals"): for each event one chain, in the order of their numbers. "The lowest number
 -- that applies is the answer": the first condition of the chain that holds decides.
 use mathlib.Core.Bool.{Bool, _&&_, not}
 use mathlib.Core.List as list

@@ -1,4 +1,4 @@
--- The bounds of a code's parts (01, "Contract codes"), and the lengths that follow from them, in bytes.
+-- The bounds of a code's parts (RULES, "Contract codes"), and the lengths that follow from them, in bytes.
 use Prim.Native.Nat.{ℕ, _+_, _/_}
 use Rattle.terms.specs.Bounds.{maxStrike}
 

@@ -1,4 +1,4 @@
--- Contract codes (01, "Contract codes"; 004, clause 1.2): futures code, M, DDMMYY, C or P, A or E, strike.
+-- Contract codes (RULES, "Contract codes"): futures code, M, DDMMYY, C or P, A or E, strike.
 use Prim.Native.Nat.{ℕ, _-_}
 use mathlib.Core.Path.{_≡_}
 use mathlib.Core.List.{List, [], _∷_, _++_}
@@ -24,7 +24,7 @@ use Rattle.contract.specs.declared.types.Written.{Written}
 use Rattle.contract.specs.declared.types.LayoutRead.{LayoutRead}
 use Rattle.contract.specs.declared.types.LayoutRead.the-variants.{Laid, NoLayout}
 
--- 01, "Refusals": the number of each
+-- RULES, "Refusals": the number of each
 unfoldable pub number : Refusal → ℕ
 number Layout = no.code
 number NoDate = no.date

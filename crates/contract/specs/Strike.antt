@@ -1,4 +1,4 @@
--- The strike (01, "Contract codes"): roubles or dollars with no leading zero save a lone 0, and a point with one or two
+-- The strike (RULES, "Contract codes"): roubles or dollars with no leading zero save a lone 0, and a point with one or two
 -- digits only if the last isn't 0. It is counted in hundredths and ends the code.
 use Prim.Native.Nat.{ℕ, _+_, _*_, _/_, _%_, min}
 use mathlib.Core.List.{List, [], _∷_, _++_}
@@ -63,7 +63,7 @@ unfoldable pub onStrike : {A : Type 0} → StrikeRead → A → (ℕ → A) → 
 onStrike (Strike h) none next = next h
 onStrike NoStrike none next = none
 
--- 01, "Refusals", 19: a strike is from 0.01 to 100000
+-- RULES, "Refusals", 19: a strike is from 0.01 to 100000
 unfoldable pub strikeVerdict : ℕ → Verdict
 strikeVerdict strike =
     choose (ltb strike 1) (Refused StrikeText) (choose (ltb strike (maxStrike + 1)) Accepted (Refused StrikeText))

@@ -1,4 +1,4 @@
--- One byte of a code's layout (01, "Contract codes").
+-- One byte of a code's layout (RULES, "Contract codes").
 use Prim.Native.Nat.{ℕ, _+_}
 use mathlib.Core.List.{List}
 use lib.ListN.{length, getD}

@@ -1,4 +1,4 @@
--- 01's false friend of this layer, as a fact of the definition that the sessions use.
+-- A mistake that comes easily in this layer (RULES, "Values and splits"), as a fact of the definition that the sessions use.
 use mathlib.Core.Path.{_≡_, refl}
 use lib.IntN.{pos}
 use Rattle.value.specs.Rounding.{nearest}

@@ -1,4 +1,4 @@
--- What follows from 01's bounds, in kopecks: "No money sum can pass 64 signed bits within these bounds".
+-- What follows from the bounds, in kopecks: "No money sum can pass 64 signed bits within these bounds".
 use Prim.Native.Nat.{ℕ, _+_, _*_, _/_}
 use Rattle.terms.specs.Bounds.{seriesRoom, finalDay, maxOptionPrice, maxTickValue, maxQuantity, maxPosition, blotterRoom}
 

@@ -89,7 +89,7 @@ pub of-account-within : {B : ℕ} (f : ℕ → ℤ) → ((k : ℕ) → Within B 
 unfolding ofAccount
 of-account-within {B} f h a = record { abs = sum-abs sections B _ (λ s ls. h _ .abs) }
 
--- 01: "an account is a single section here"
+-- RULES, "Exercise": "an account is a single section here"
 pub single : (f : ℕ → ℤ) (a : ℕ) → ofAccount f a ≡ f (placeOf a)
 unfolding ofAccount placeOf placeIn sumTo
 single f a = +ℤ-idl (f (placeOf a))

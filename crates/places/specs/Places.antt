@@ -8,7 +8,7 @@ use lib.ListN.{getD}
 use Rattle.terms.specs.Bounds.{accounts}
 use Rattle.places.specs.Sections.{placeAmong, accountAmong, sectionAmong, sumAmong}
 
--- 01, "Exercise": "an account is a single section here"
+-- RULES, "Exercise": "an account is a single section here"
 abbrev pub sections : ℕ
 sections = 1
 

@@ -2,7 +2,7 @@
 // places there are, and which are an account's.
 use terms::bounds::ACCOUNTS;
 
-// The sections of an account's register. 01: an account is a single section here.
+// The sections of an account's register. RULES, "Exercise": an account is a single section here.
 pub const SECTIONS: usize = 1;
 
 // An account has a place for each of its sections.

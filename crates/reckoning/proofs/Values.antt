@@ -1,4 +1,4 @@
--- The values and splits of 01's section of that name hold: each is computed (specs/Values.antt).
+-- The values and splits (RULES, "Values and splits") hold: each is computed (specs/Values.antt).
 use mathlib.Core.Path.{refl}
 use Rattle.choice.specs.Choice.{choose}
 use Rattle.exercise.specs.Assignment.{rank, assigned}

@@ -1,4 +1,4 @@
--- The demand is not empty: 01's example is a list with an intraday session and two evenings carried out, the second an expiry at the
+-- The demand is not empty: the example in crates/replay/stdin is a list with an intraday session and two evenings carried out, the second an expiry at the
 -- money; and another option price in the mark for its intraday session makes another list that is alike.
 use mathlib.Core.Path.{_≡_, refl, sym, ap, _∙_}
 use mathlib.Core.Logic.{_⊎_, inl, inr}
@@ -35,7 +35,7 @@ use Rattle.book.proofs.Live.{both-true}
 use Rattle.reckoning.specs.Demand.{eventAt, carriedAt, CarriedOut, OtherMark, Alike, isMark, upTo}
 use Rattle.reckoning.proofs.Demand.{demand-3}
 
--- the list of 01, "Rows", with the option price p in the mark for its intraday session
+-- the list of the example, with the option price p in the mark for its intraday session
 abbrev mark : ℕ → ℕ → Event
 mark option future = Mark (record { series = 0; option = option; future = future; «tick_value» = 100000 })
 

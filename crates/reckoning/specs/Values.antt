@@ -1,4 +1,4 @@
--- The values and splits of 01's section of that name, said of the rules.
+-- The values and splits (RULES, "Values and splits"), said of the definitions.
 use mathlib.Core.Path.{_≡_}
 use mathlib.Core.List as list
 use mathlib.Core.List.{[], _∷_}
@@ -32,7 +32,7 @@ trade x y q = Trade (record { series = 0; buyer = x; seller = y; quantity = q; p
 abbrev pub thousands : ℕ → list.List Event
 thousands n = listing ∷ replicate n (trade 1 2 1000)
 
--- 01's number of the answer to an event after a list of events
+-- the number of the answer to an event after a list of events
 abbrev pub numberAfter : list.List Event → Event → ℕ
 numberAfter es e = answerNumber (stepOf (after es) e .answer)
 

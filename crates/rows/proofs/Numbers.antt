@@ -1,4 +1,4 @@
--- 01's table of refusals holds (specs/Numbers.antt).
+-- The table of refusals holds (specs/Numbers.antt).
 use mathlib.Core.Path.{refl}
 use Rattle.contract.specs.Code as code
 use Rattle.series.specs.Refusals.{number}

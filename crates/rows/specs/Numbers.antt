@@ -1,4 +1,4 @@
--- 01's table of refusals ("Refusals"), line by line: the number of each refusal of the book (series/specs/Refusals.antt) and of each row
+-- The table of refusals (RULES, "Refusals"), line by line: the number of each refusal of the book (series/specs/Refusals.antt) and of each row
 -- that never reaches it (Row.antt).
 use mathlib.Core.Path.{_≡_}
 use Prim.Native.Nat.{ℕ}

@@ -1,4 +1,4 @@
--- What the conditions of an event ask of one series (01, "Refusals").
+-- What the conditions of an event ask of one series (RULES, "Refusals").
 use mathlib.Core.Bool.{Bool, false}
 use Prim.Native.Nat.{ℕ}
 use lib.Dec.{ltb}

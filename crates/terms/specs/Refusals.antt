@@ -1,4 +1,4 @@
--- 01's number for each refusal (01, "Refusals"), in the order of its table: the trade's word and when it applies.
+-- The number of each refusal, in the order of their table (RULES, "Refusals"): the trade's word and when it applies.
 use Prim.Native.Nat.{ℕ}
 
 -- finished: day 999's evening is over; every event

@@ -1,4 +1,4 @@
-// 01's number for each refusal, in the order of its table.
+// The number of each refusal, in the order of their table (RULES, "Refusals").
 pub const FINISHED: u64 = 1;
 
 pub const UNKNOWN_SERIES: u64 = 2;

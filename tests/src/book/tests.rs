@@ -43,7 +43,7 @@ fn first(places: &[i64]) -> [i64; ACCOUNTS] {
 
 const CALL: &str = "L,GAZR-3.23M150323CA17000,100,5";
 
-// 01, "Values and splits to prove".
+// RULES, "Values and splits".
 
 #[test]
 fn half_of_five() {
@@ -100,7 +100,7 @@ fn limits() {
     run(&mut book, "T,0,1,2,1,0");
 }
 
-// 01, the false friends.
+// The mistakes of RULES, "Values and splits".
 
 #[test]
 fn the_evening_price_is_valued_with_todays_coefficient() {
