@@ -1,4 +1,4 @@
--- A mistake that comes easily in this layer (RULES, "Values and splits"), as a fact of the definition that the sessions use.
+-- The false friend of this layer (RULES, "Values and splits"), as a fact of the definition that the sessions use.
 use mathlib.Core.Path.{_≡_, refl}
 use lib.IntN.{pos}
 use Rattle.value.specs.Rounding.{nearest}

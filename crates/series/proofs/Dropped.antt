@@ -1,4 +1,4 @@
--- "Both use the marks of all live series, then drop them" (RULES, "Events").
+-- "Both sessions use the marks of all live series, then drop them" (RULES, "Events").
 use mathlib.Core.Path.{_≡_, refl}
 use Prim.Native.Nat.{ℕ}
 use Rattle.series.specs.Changes.{unmarked, settled}

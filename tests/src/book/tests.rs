@@ -100,7 +100,7 @@ fn limits() {
     run(&mut book, "T,0,1,2,1,0");
 }
 
-// The mistakes of RULES, "Values and splits".
+// The false friends of RULES, "Values and splits".
 
 #[test]
 fn the_evening_price_is_valued_with_todays_coefficient() {
