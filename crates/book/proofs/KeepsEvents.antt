@@ -1,4 +1,4 @@
--- An event on one series (a listing, a trade, a request, a refusal or a mark) that is carried out keeps what holds of every book.
+-- An event that is no session (a listing, a trade, a request, a refusal or a mark) and is carried out keeps what holds of every book.
 use mathlib.Core.Path.{_≡_, refl, _∙_}
 use mathlib.Core.Logic.{_≢_}
 use mathlib.Core.List.{List}
