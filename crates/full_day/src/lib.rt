@@ -42,6 +42,7 @@ fn trade(n: usize) -> Event
         seller: (n / 8 + 32) as u8,
         quantity: (n + 1) as u64,
         price: (n + 5000) as u64,
+        venue: 0,
     })
 }
 

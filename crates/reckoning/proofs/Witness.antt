@@ -42,7 +42,7 @@ mark option future = Mark (record { series = 0; option = option; future = future
 abbrev pub example : ℕ → list.List Event
 example p =
     List (record { option = Call; category = American; strike = 1700000; tick = 100; «last_day» = 1 })
-    ∷ Trade (record { series = 0; buyer = 1; seller = 2; quantity = 10; price = 15000 })
+    ∷ Trade (record { series = 0; buyer = 1; seller = 2; quantity = 10; price = 15000; venue = 0 })
     ∷ mark p 1702000
     ∷ Intraday
     ∷ mark 15500 1700000

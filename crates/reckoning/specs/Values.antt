@@ -26,7 +26,7 @@ abbrev pub listing : Event
 listing = List (record { option = Call; category = American; strike = 1700000; tick = 100; «last_day» = 1 })
 
 abbrev pub trade : ℕ → ℕ → ℕ → Event
-trade x y q = Trade (record { series = 0; buyer = x; seller = y; quantity = q; price = 15000 })
+trade x y q = Trade (record { series = 0; buyer = x; seller = y; quantity = q; price = 15000; venue = 0 })
 
 -- the listing and n trades of 1,000 contracts that account 1 buys and account 2 sells
 abbrev pub thousands : ℕ → list.List Event

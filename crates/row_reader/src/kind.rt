@@ -21,7 +21,7 @@ fn at_end(s: &[u8], at: usize, event: Event) -> Row
     Row::Refused(Refusal::Row)
 }
 
-// T,series,buyer,seller,quantity,price
+// T,series,buyer,seller,quantity,price,venue
 pub fn trade(s: &[u8]) -> Row
     ensures { λ r. ⌜ r ≡ tradeRow (now (s .entry)) ⌝ }
 {
@@ -60,15 +60,23 @@ pub fn trade(s: &[u8]) -> Row
     else {
         return Row::Refused(Refusal::Row);
     };
+    let Numeral::Value {
+        value: venue,
+        next: f,
+    } = row_fields::number(s, e)
+    else {
+        return Row::Refused(Refusal::Row);
+    };
     at_end(
         s,
-        e,
+        f,
         Event::Trade(Deal {
             series,
             buyer,
             seller,
             quantity,
             price,
+            venue,
         }),
     )
 }

@@ -19,6 +19,7 @@ pub struct Deal {
     pub seller: u8,
     pub quantity: u64,
     pub price: u64,
+    pub venue: u64,
 }
 
 // A request to exercise.

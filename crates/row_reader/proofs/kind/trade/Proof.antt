@@ -1,5 +1,6 @@
 -- `row_reader::kind::trade` meets its contract.
 use borrow.Author.Needs.{needs}
+use Rattle.rows.proofs.Fields.{byte-value}
 use Rattle.rows.proofs.Readers.{fields}
 use Rattle.rows.specs.Row.{tradeRow}
 use Rattle.row_reader.proofs.kind.trade.Statement.{statement}
@@ -70,12 +71,29 @@ returns-5 : tie.Need-returns-5
 unfolding tradeRow
 returns-5 c = search fields depth 12
 
-at-end-requires : tie.Need-at-end-requires
-at-end-requires c κs = search needs
+number-requires-3 : tie.Need-number-requires-3
+number-requires-3 c κs = search needs
+
+enum-known-venue : tie.Need-enum-known-venue
+enum-known-venue c = search needs
+
+enum-told-6 : tie.Need-enum-told-6
+enum-told-6 c = search needs
 
 returns-6 : tie.Need-returns-6
 unfolding tradeRow
 returns-6 c = search fields depth 12
+
+at-end-requires : tie.Need-at-end-requires
+at-end-requires c κs = search needs
+
+returns-7 : tie.Need-returns-7
+unfolding tradeRow
+returns-7 c =
+    byte-value _ _ _ _ _ _ _
+    (c .before .before .before .before .before .before .before .before .before .before .before .before .before .before .before .before .before .before .before .before .before .before .before .before .byte .ensures)
+    (c .before .before .before .before .before .before .before .before .before .before .before .before .before .before .before .before .before .before .before .before .before .before .series .given .1)
+    (search fields depth 12)
 
 pub trade-spec : {M : Type 1} → statement M
 trade-spec =
@@ -101,5 +119,9 @@ trade-spec =
     enum-known-price
     enum-told-5
     returns-5
+    number-requires-3
+    enum-known-venue
+    enum-told-6
+    returns-6
     at-end-requires
-    returns-6)
+    returns-7)
