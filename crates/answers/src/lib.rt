@@ -32,6 +32,7 @@ fn refusal_number(why: Refusal) -> u64
         Refusal::TickValue => refusals::TICK_VALUE,
         Refusal::SecondIntraday => refusals::SECOND_INTRADAY,
         Refusal::NoMark(_) => refusals::NO_MARK,
+        Refusal::Venue => refusals::VENUE,
     }
 }
 

@@ -11,7 +11,7 @@ use lib.IntN.{ℤ, pos, natAbs, _+ℤ_, _-ℤ_}
 use Rattle.choice.specs.Choice.{choose}
 use Rattle.exercise.specs.Exercise.{held}
 use Rattle.integer.specs.Bounds.{Within}
-use Rattle.terms.specs.Bounds.{accounts, seriesRoom, finalDay, blotterRoom, maxStrike, maxTick, maxOptionPrice, maxFuturesPrice, maxTickValue, maxQuantity, maxPosition}
+use Rattle.terms.specs.Bounds.{accounts, seriesRoom, finalDay, blotterRoom, maxStrike, maxTick, maxOptionPrice, maxFuturesPrice, maxTickValue, maxQuantity, maxVenue, maxPosition}
 use Rattle.value.specs.Value.{coefficientOf}
 use Rattle.series.specs.Conditions.{passesLimit, tooEarly}
 use Rattle.series.specs.Series.{positionIn}
@@ -91,6 +91,7 @@ pub record TradeAllowed (t : Today) (l : Listing) (positions : list.List ℤ) (d
   pub apart : d .buyer ≢ d .seller
   pub least : 1 ≤ d .quantity
   pub most : d .quantity ≤ maxQuantity
+  pub venue : d .venue ≤ maxVenue
   pub price : d .price ≤ maxOptionPrice
   pub whole-ticks : d .price % l .tick ≡ 0
   pub buyer-limit : Within maxPosition (positionIn positions (d .buyer) +ℤ pos (d .quantity))
@@ -111,7 +112,8 @@ trade-allowed t l positions d e =
     let p10 = passed _ _ _ (p9 .rest) in
     let p11 = passed _ _ _ (p10 .rest) in
     let p12 = passed _ _ _ (p11 .rest) in
-    let p13 = passed _ _ _ (p12 .rest) in record {
+    let p13 = passed _ _ _ (p12 .rest) in
+    let p14 = passed _ _ _ (p13 .rest) in record {
       day = ltb-false finalDay (t .day) (p1 .failed);
       listed = leb-false (t .listed) (d .series) (p2 .failed);
       live = ltb-false (l .«last_day») (t .day) (p3 .failed);
@@ -120,11 +122,12 @@ trade-allowed t l positions d e =
       apart = eqb-false (d .buyer) (d .seller) (p6 .failed);
       least = ltb-false (d .quantity) 1 (p7 .failed);
       most = ltb-false maxQuantity (d .quantity) (p8 .failed);
-      price = ltb-false maxOptionPrice (d .price) (p9 .failed);
-      whole-ticks = omega (arith, ltb-false 0 (d .price % l .tick) (p10 .failed));
-      buyer-limit = within-limit (positionIn positions (d .buyer) +ℤ pos (d .quantity)) (p11 .failed);
-      seller-limit = within-limit (positionIn positions (d .seller) -ℤ pos (d .quantity)) (p12 .failed);
-      room = leb-false blotterRoom (t .trades) (p13 .failed);
+      venue = ltb-false maxVenue (d .venue) (p9 .failed);
+      price = ltb-false maxOptionPrice (d .price) (p10 .failed);
+      whole-ticks = omega (arith, ltb-false 0 (d .price % l .tick) (p11 .failed));
+      buyer-limit = within-limit (positionIn positions (d .buyer) +ℤ pos (d .quantity)) (p12 .failed);
+      seller-limit = within-limit (positionIn positions (d .seller) -ℤ pos (d .quantity)) (p13 .failed);
+      room = leb-false blotterRoom (t .trades) (p14 .failed);
     }
 
 pub record RequestAllowed (t : Today) (l : Listing) (positions : list.List ℤ) (r : Request) : Type 0 where

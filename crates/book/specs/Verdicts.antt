@@ -1,5 +1,5 @@
--- Under which conditions an event is refused (01, "Refusals"): for each event one chain, in the order of their numbers. "The lowest number
--- that applies is the answer": the first condition of the chain that holds decides.
+-- Under which conditions an event is refused (01, "Refusals"): for each event one chain, in the order of their numbers, but that 21 stands
+-- behind 6. "The lowest number that applies is the answer": the first condition of the chain that holds decides.
 use mathlib.Core.Bool.{Bool, _&&_, not}
 use mathlib.Core.List as list
 use Prim.Native.Nat.{ℕ, zero, suc, _%_}
@@ -7,7 +7,7 @@ use lib.Dec.{ltb, leb, eqb}
 use lib.IntN.{ℤ, pos, _+ℤ_, _-ℤ_}
 use Rattle.choice.specs.Choice.{choose}
 use Rattle.exercise.specs.Exercise.{held}
-use Rattle.terms.specs.Bounds.{accounts, seriesRoom, finalDay, blotterRoom, maxStrike, maxTick, maxOptionPrice, maxFuturesPrice, maxTickValue, maxQuantity}
+use Rattle.terms.specs.Bounds.{accounts, seriesRoom, finalDay, blotterRoom, maxStrike, maxTick, maxOptionPrice, maxFuturesPrice, maxTickValue, maxQuantity, maxVenue}
 use Rattle.value.specs.Value.{coefficientOf}
 use Rattle.series.specs.Conditions.{passesLimit, tooEarly}
 use Rattle.series.specs.Series.{pastLast, positionIn}
@@ -17,7 +17,7 @@ use Rattle.series.specs.declared.event.Request.{Request}
 use Rattle.series.specs.declared.event.Waiver.{Waiver}
 use Rattle.series.specs.declared.event.Quote.{Quote}
 use Rattle.series.specs.declared.state.Listing.{Listing}
-use Rattle.series.specs.declared.refusal.Refusal.the-variants.{Finished, UnknownSeries, Expired, UnknownAccount, OwnTrade, Size, Price, PositionLimit, BlotterFull, Terms, SeriesFull, NotToday, NotHeld, TickValue, SecondIntraday, NoMark}
+use Rattle.series.specs.declared.refusal.Refusal.the-variants.{Finished, UnknownSeries, Expired, UnknownAccount, OwnTrade, Size, Price, PositionLimit, BlotterFull, Terms, SeriesFull, NotToday, NotHeld, TickValue, SecondIntraday, NoMark, Venue}
 use Rattle.series.specs.declared.refusal.Verdict.{Verdict}
 use Rattle.series.specs.declared.refusal.Verdict.the-variants.{Allowed, Refused}
 use Rattle.book.specs.State.{seriesAt, live, todayOf}
@@ -64,12 +64,13 @@ tradeVerdict t l positions d =
     (choose (eqb (d .buyer) (d .seller)) (Refused OwnTrade)
     (choose (ltb (d .quantity) 1) (Refused Size)
     (choose (ltb maxQuantity (d .quantity)) (Refused Size)
+    (choose (ltb maxVenue (d .venue)) (Refused Venue)
     (choose (ltb maxOptionPrice (d .price)) (Refused Price)
     (choose (ltb 0 (d .price % l .tick)) (Refused Price)
     (choose (passesLimit (positionIn positions (d .buyer) +ℤ pos (d .quantity))) (Refused PositionLimit)
     (choose (passesLimit (positionIn positions (d .seller) -ℤ pos (d .quantity))) (Refused PositionLimit)
     (choose (leb blotterRoom (t .trades)) (Refused BlotterFull)
-    Allowed))))))))))))
+    Allowed)))))))))))))
 
 -- a request to exercise, "above the position, counted as 0 if short"
 abbrev pub exerciseVerdict : Today → Listing → list.List ℤ → Request → Verdict

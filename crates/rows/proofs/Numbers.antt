@@ -29,4 +29,5 @@ refusal-table =
       date = refl;
       strike-text = refl;
       row = refl;
+      venue = refl;
     }

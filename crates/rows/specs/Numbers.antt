@@ -4,7 +4,7 @@ use mathlib.Core.Path.{_≡_}
 use Prim.Native.Nat.{ℕ}
 use Rattle.contract.specs.declared.types.Refusal.the-variants.{Layout, NoDate, StrikeText}
 use Rattle.series.specs.Refusals.{number}
-use Rattle.series.specs.declared.refusal.Refusal.the-variants.{Finished, UnknownSeries, Expired, UnknownAccount, OwnTrade, Size, Price, PositionLimit, BlotterFull, Terms, SeriesFull, NotToday, NotHeld, TickValue, SecondIntraday, NoMark}
+use Rattle.series.specs.declared.refusal.Refusal.the-variants.{Finished, UnknownSeries, Expired, UnknownAccount, OwnTrade, Size, Price, PositionLimit, BlotterFull, Terms, SeriesFull, NotToday, NotHeld, TickValue, SecondIntraday, NoMark, Venue}
 use Rattle.rows.specs.Row as row
 use Rattle.rows.specs.declared.types.Refusal.the-variants.{Row, Code}
 
@@ -29,3 +29,4 @@ pub record RefusalTable : Type 0 where
   pub date : row.number (Code NoDate) ≡ 18
   pub strike-text : row.number (Code StrikeText) ≡ 19
   pub row : row.number Row ≡ 20
+  pub venue : number Venue ≡ 21

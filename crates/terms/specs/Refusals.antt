@@ -80,3 +80,7 @@ strikeText = 19
 -- row: not one of the rows below
 abbrev pub row : ℕ
 row = 20
+
+-- venue: a trade's venue above 9
+abbrev pub venue : ℕ
+venue = 21

@@ -38,3 +38,5 @@ pub const DATE: u64 = 18;
 pub const STRIKE_TEXT: u64 = 19;
 
 pub const ROW: u64 = 20;
+
+pub const VENUE: u64 = 21;

@@ -1,4 +1,4 @@
-// Whether a trade may be made: the conditions, tested in the order of the refusals' numbers.
+// Whether a trade may be made: the conditions, tested in the order of the refusals' numbers, with 21 behind 6.
 use account_places::place_of;
 use book::state::Today;
 use places::PLACES;
@@ -12,6 +12,7 @@ use terms::bounds::FINAL_DAY;
 use terms::bounds::MAX_OPTION_PRICE;
 use terms::bounds::MAX_POSITION;
 use terms::bounds::MAX_QUANTITY;
+use terms::bounds::MAX_VENUE;
 ghost use mathlib.Core.Path.{_≡_};
 ghost use Prim.Native.Nat.{_<_};
 ghost use Rattle.series.specs.Conditions.{passesLimit};
@@ -62,6 +63,9 @@ pub fn trade_verdict(
     }
     if MAX_QUANTITY < deal.quantity {
         return Verdict::Refused(Refusal::Size);
+    }
+    if MAX_VENUE < deal.venue {
+        return Verdict::Refused(Refusal::Venue);
     }
     if MAX_OPTION_PRICE < deal.price {
         return Verdict::Refused(Refusal::Price);

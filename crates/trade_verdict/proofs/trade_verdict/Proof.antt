@@ -11,11 +11,11 @@ use Rattle.choice.proofs.Chain.{hit, past, tests}
 use Rattle.integer.proofs.Machine.{Reads, any, nat, plus, minus, local, fits}
 use Rattle.integer.specs.Table.{at}
 use Rattle.places.specs.Places.{placeOf}
-use Rattle.terms.specs.Bounds.{maxOptionPrice, maxQuantity}
+use Rattle.terms.specs.Bounds.{maxOptionPrice, maxQuantity, maxVenue}
 use Rattle.series.specs.Conditions.{passesLimit}
 use Rattle.series.specs.Series.{pastLast}
 use Rattle.series.specs.declared.event.Deal.{Deal}
-use Rattle.series.specs.declared.refusal.Refusal.the-variants.{Finished, UnknownSeries, Expired, UnknownAccount, OwnTrade, Size, Price, PositionLimit}
+use Rattle.series.specs.declared.refusal.Refusal.the-variants.{Finished, UnknownSeries, Expired, UnknownAccount, OwnTrade, Size, Price, PositionLimit, Venue}
 use Rattle.series.specs.declared.refusal.Verdict.{Verdict}
 use Rattle.series.specs.declared.refusal.Verdict.the-variants.{Refused}
 use Rattle.series.specs.declared.state.Listing.{Listing}
@@ -61,24 +61,28 @@ returns-8 c = search (hit, past, tests) depth 28
 returns-9 : tie.Need-returns-9
 returns-9 c = search (hit, past, tests) depth 28
 
-cast-if10 : tie.Need-cast-if10
-cast-if10 c = search needs
-
-rem-if10 : tie.Need-rem-if10
-rem-if10 c = search (needs, c .before .before .before .before .before .before .before .before .before .before .before .before .before .before .before .before .before .before .before .before .before .pre (c .before .before .before .before .before .before .before .before .before .before .before .before .before .before .before .before .if2 .left))
-
 returns-10 : tie.Need-returns-10
-returns-10 c =
-    past _ (le-ltb _ _ (c .before .before .before .before .before .before .before .before .before .before .before .before .before .before .before .before .before .before .before .before .if1 .left))
-    (past _ (lt-leb _ _ (c .before .before .before .before .before .before .before .before .before .before .before .before .before .before .before .before .before .if2 .left))
-    (past _ (le-ltb _ _ (c .before .before .before .before .before .before .before .before .before .before .before .before .before .before .if3 .left))
-    (past _ (lt-leb _ _ (c .before .before .before .before .before .before .before .before .before .before .before .if4 .left))
-    (past _ (lt-leb _ _ (c .before .before .before .before .before .before .before .before .before .before .if5 .left))
-    (past _ (ne-eqb _ _ (c .before .before .before .before .before .before .before .before .before .if6 .left))
-    (past _ (le-ltb _ _ (c .before .before .before .before .before .before .before .if7 .left))
-    (past _ (le-ltb _ _ (c .before .before .before .before .before .if8 .left))
-    (past _ (le-ltb _ _ (c .before .before .before .if9 .left))
-    (hit _ (lt-ltb _ _ (c .if10 .taken)) refl)))))))))
+returns-10 c = search (hit, past, tests) depth 28
+
+cast-if11 : tie.Need-cast-if11
+cast-if11 c = search needs
+
+rem-if11 : tie.Need-rem-if11
+rem-if11 c = search (needs, c .before .before .before .before .before .before .before .before .before .before .before .before .before .before .before .before .before .before .before .before .before .before .before .pre (c .before .before .before .before .before .before .before .before .before .before .before .before .before .before .before .before .before .before .if2 .left))
+
+returns-11 : tie.Need-returns-11
+returns-11 c =
+    past _ (le-ltb _ _ (c .before .before .before .before .before .before .before .before .before .before .before .before .before .before .before .before .before .before .before .before .before .before .if1 .left))
+    (past _ (lt-leb _ _ (c .before .before .before .before .before .before .before .before .before .before .before .before .before .before .before .before .before .before .before .if2 .left))
+    (past _ (le-ltb _ _ (c .before .before .before .before .before .before .before .before .before .before .before .before .before .before .before .before .if3 .left))
+    (past _ (lt-leb _ _ (c .before .before .before .before .before .before .before .before .before .before .before .before .before .if4 .left))
+    (past _ (lt-leb _ _ (c .before .before .before .before .before .before .before .before .before .before .before .before .if5 .left))
+    (past _ (ne-eqb _ _ (c .before .before .before .before .before .before .before .before .before .before .before .if6 .left))
+    (past _ (le-ltb _ _ (c .before .before .before .before .before .before .before .before .before .if7 .left))
+    (past _ (le-ltb _ _ (c .before .before .before .before .before .before .before .if8 .left))
+    (past _ (le-ltb _ _ (c .before .before .before .before .before .if9 .left))
+    (past _ (le-ltb _ _ (c .before .before .before .if10 .left))
+    (hit _ (lt-ltb _ _ (c .if11 .taken)) refl))))))))))
 
 -- the conditions before the position limit, and then v
 abbrev beforeLimits : Today → Listing → Deal → Verdict → Verdict
@@ -91,27 +95,29 @@ beforeLimits t l d v =
     (choose (eqb (d .buyer) (d .seller)) (Refused OwnTrade)
     (choose (ltb (d .quantity) 1) (Refused Size)
     (choose (ltb maxQuantity (d .quantity)) (Refused Size)
+    (choose (ltb maxVenue (d .venue)) (Refused Venue)
     (choose (ltb maxOptionPrice (d .price)) (Refused Price)
     (choose (ltb 0 (d .price % l .tick)) (Refused Price)
-    v)))))))))
+    v))))))))))
 
-abbrev start : tie.Else10 → tie.Start
-start c = c .before .before .before .before .before .before .before .before .before .before .before .before .before .before .before .before .before .before .before .before .before .before
+abbrev start : tie.Else11 → tie.Start
+start c = c .before .before .before .before .before .before .before .before .before .before .before .before .before .before .before .before .before .before .before .before .before .before .before .before
 
-module _ (c : tie.Else10) where
+module _ (c : tie.Else11) where
   -- they fail
   all-fail : {z v : Verdict} → z ≡ v → z ≡ beforeLimits (start c .args .today) (start c .args .listing) (start c .args .deal) v
   all-fail e =
-      past _ (le-ltb _ _ (c .before .before .before .before .before .before .before .before .before .before .before .before .before .before .before .before .before .before .before .before .if1 .left))
-      (past _ (lt-leb _ _ (c .before .before .before .before .before .before .before .before .before .before .before .before .before .before .before .before .before .if2 .left))
-      (past _ (le-ltb _ _ (c .before .before .before .before .before .before .before .before .before .before .before .before .before .before .if3 .left))
-      (past _ (lt-leb _ _ (c .before .before .before .before .before .before .before .before .before .before .before .if4 .left))
-      (past _ (lt-leb _ _ (c .before .before .before .before .before .before .before .before .before .before .if5 .left))
-      (past _ (ne-eqb _ _ (c .before .before .before .before .before .before .before .before .before .if6 .left))
-      (past _ (le-ltb _ _ (c .before .before .before .before .before .before .before .if7 .left))
-      (past _ (le-ltb _ _ (c .before .before .before .before .before .if8 .left))
-      (past _ (le-ltb _ _ (c .before .before .before .if9 .left))
-      (past _ (le-ltb _ _ (c .if10 .left)) e)))))))))
+      past _ (le-ltb _ _ (c .before .before .before .before .before .before .before .before .before .before .before .before .before .before .before .before .before .before .before .before .before .before .if1 .left))
+      (past _ (lt-leb _ _ (c .before .before .before .before .before .before .before .before .before .before .before .before .before .before .before .before .before .before .before .if2 .left))
+      (past _ (le-ltb _ _ (c .before .before .before .before .before .before .before .before .before .before .before .before .before .before .before .before .if3 .left))
+      (past _ (lt-leb _ _ (c .before .before .before .before .before .before .before .before .before .before .before .before .before .if4 .left))
+      (past _ (lt-leb _ _ (c .before .before .before .before .before .before .before .before .before .before .before .before .if5 .left))
+      (past _ (ne-eqb _ _ (c .before .before .before .before .before .before .before .before .before .before .before .if6 .left))
+      (past _ (le-ltb _ _ (c .before .before .before .before .before .before .before .before .before .if7 .left))
+      (past _ (le-ltb _ _ (c .before .before .before .before .before .before .before .if8 .left))
+      (past _ (le-ltb _ _ (c .before .before .before .before .before .if9 .left))
+      (past _ (le-ltb _ _ (c .before .before .before .if10 .left))
+      (past _ (le-ltb _ _ (c .if11 .left)) e))))))))))
 
   abbrev quantity : ℕ
   quantity = start c .args .deal .quantity
@@ -123,10 +129,10 @@ module _ (c : tie.Else10) where
   seller-has = at (start c .args .positions .now) (placeOf (start c .args .deal .seller))
 
   small : quantity ≤ maxQuantity
-  small = c .before .before .before .before .before .if8 .left
+  small = c .before .before .before .before .before .before .before .if8 .left
 
 module _ (c : tie.After-passes-limit-arg) where
-  abbrev at-purchase : tie.Else10
+  abbrev at-purchase : tie.Else11
   at-purchase = c .before .before .before
 
   abbrev buyer-position : Reads 2147483648 (at (start at-purchase .args .positions .now) (c .before .before .place-of .result))
@@ -136,7 +142,7 @@ module _ (c : tie.After-passes-limit-arg) where
   bought = plus (local w64 buyer-position tt) (nat w64 (small at-purchase) tt)
 
 module _ (c : tie.After-passes-limit-arg2) where
-  abbrev at-sale : tie.Else10
+  abbrev at-sale : tie.Else11
   at-sale = c .before .before .before .before .before .before .before
 
   abbrev seller-position : Reads 2147483648 (at (start at-sale .args .positions .now) (c .before .before .before .before .before .place-of2 .result))
@@ -159,12 +165,12 @@ seller-passes c =
     ∙ ap (λ (k : ℕ). passesLimit (at (start b .args .positions .now) k -ℤ pos (quantity b))) (c .before .before .before .before .before .before .before .place-of2 .ensures .0)
 
 -- neither side passes the limit
-no-limit-passed : (c : tie.Else12) {z v : Verdict} → z ≡ v
+no-limit-passed : (c : tie.Else13) {z v : Verdict} → z ≡ v
     → z ≡ choose (passesLimit (buyer-has (at-sale (c .before .before .before)) +ℤ pos (quantity (at-sale (c .before .before .before))))) (Refused PositionLimit)
     (choose (passesLimit (seller-has (at-sale (c .before .before .before)) -ℤ pos (quantity (at-sale (c .before .before .before))))) (Refused PositionLimit) v)
 no-limit-passed c e =
-    past _ (sym (buyer-passes (c .before .before .before .before .before)) ∙ c .before .before .before .before .if11 .left)
-    (past _ (sym (seller-passes (c .before)) ∙ c .if12 .left) e)
+    past _ (sym (buyer-passes (c .before .before .before .before .before)) ∙ c .before .before .before .before .if12 .left)
+    (past _ (sym (seller-passes (c .before)) ∙ c .if13 .left) e)
 
 place-of-requires : tie.Need-place-of-requires
 place-of-requires c κs = search needs
@@ -190,8 +196,8 @@ add-passes-limit c = fits w64 (bought (c .before)) tt
 passes-limit-requires : tie.Need-passes-limit-requires
 passes-limit-requires c κs = search needs
 
-returns-11 : tie.Need-returns-11
-returns-11 c = all-fail (at-purchase (c .before .before .before)) (hit _ (sym (buyer-passes (c .before)) ∙ c .if11 .taken) refl)
+returns-12 : tie.Need-returns-12
+returns-12 c = all-fail (at-purchase (c .before .before .before)) (hit _ (sym (buyer-passes (c .before)) ∙ c .if12 .taken) refl)
 
 mul-passes-limit-2 : tie.Need-mul-passes-limit-2
 mul-passes-limit-2 c = search needs
@@ -211,17 +217,17 @@ sub-passes-limit c = fits w64 (sold (c .before)) tt
 passes-limit-requires-2 : tie.Need-passes-limit-requires-2
 passes-limit-requires-2 c κs = search needs
 
-returns-12 : tie.Need-returns-12
-returns-12 c =
-    all-fail (at-sale (c .before .before .before))
-    (past _ (sym (buyer-passes (c .before .before .before .before .before)) ∙ c .before .before .before .before .if11 .left)
-    (hit _ (sym (seller-passes (c .before)) ∙ c .if12 .taken) refl))
-
 returns-13 : tie.Need-returns-13
-returns-13 c = all-fail (at-sale (c .before .before .before .before .before)) (no-limit-passed (c .before .before) (hit _ (le-leb _ _ (c .if13 .taken)) refl))
+returns-13 c =
+    all-fail (at-sale (c .before .before .before))
+    (past _ (sym (buyer-passes (c .before .before .before .before .before)) ∙ c .before .before .before .before .if12 .left)
+    (hit _ (sym (seller-passes (c .before)) ∙ c .if13 .taken) refl))
 
 returns-14 : tie.Need-returns-14
-returns-14 c = all-fail (at-sale (c .before .before .before .before .before)) (no-limit-passed (c .before .before) (past _ (lt-leb _ _ (c .if13 .left)) refl))
+returns-14 c = all-fail (at-sale (c .before .before .before .before .before)) (no-limit-passed (c .before .before) (hit _ (le-leb _ _ (c .if14 .taken)) refl))
+
+returns-15 : tie.Need-returns-15
+returns-15 c = all-fail (at-sale (c .before .before .before .before .before)) (no-limit-passed (c .before .before) (past _ (lt-leb _ _ (c .if14 .left)) refl))
 
 pub trade-verdict-spec : {M : Type 1} → statement M
 trade-verdict-spec =
@@ -239,9 +245,10 @@ trade-verdict-spec =
     returns-7
     returns-8
     returns-9
-    cast-if10
-    rem-if10
     returns-10
+    cast-if11
+    rem-if11
+    returns-11
     place-of-requires
     place-of-requires-2
     mul-passes-limit
@@ -250,13 +257,13 @@ trade-verdict-spec =
     cast-passes-limit-2
     add-passes-limit
     passes-limit-requires
-    returns-11
+    returns-12
     mul-passes-limit-2
     element-copy-out-passes-limit-2
     cast-passes-limit-3
     cast-passes-limit-4
     sub-passes-limit
     passes-limit-requires-2
-    returns-12
     returns-13
-    returns-14)
+    returns-14
+    returns-15)
