@@ -49,6 +49,7 @@ same-trade b c t day listed listing g =
       apart = g .apart;
       quantity = g .quantity;
       price = g .price;
+      venue = g .venue;
     }
 
 module _ (b : Book) (g : Good b) where
@@ -172,6 +173,7 @@ good-trade b g d c =
       apart = c .apart;
       quantity = c .most;
       price = c .price;
+      venue = c .venue;
     }))
     (c .room)
 

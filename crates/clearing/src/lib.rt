@@ -39,6 +39,7 @@ pub fn empty() -> Book
         seller: 0,
         quantity: 0,
         price: 0,
+        venue: 0,
     };
     Book {
         day: 0,

@@ -27,6 +27,7 @@ pub fn trade(today: Today, listing: Listing, positions: &[i32; PLACES], deal: De
         seller: deal.seller,
         quantity: deal.quantity as u16,
         price: deal.price as u32,
+        venue: deal.venue as u8,
     };
     Effect::Traded(t)
 }

@@ -33,12 +33,15 @@ cast-t8 c = omega (arith, allowed (c .before) .most)
 cast-t9 : tie.Need-cast-t9
 cast-t9 c = omega (arith, allowed (c .before .before) .price)
 
+cast-t10 : tie.Need-cast-t10
+cast-t10 c = omega (arith, allowed (c .before .before .before) .venue)
+
 returns-2 : tie.Need-returns-2
 returns-2 c =
-    let t = c .before .before in
+    let t = c .before .before .before in
     effect-allowed _ refl (verdict-is (t .before .before .trade-verdict .ensures) (t .enum-told .given .1))
 
 pub trade-spec : {M : Type 1} → statement M
 trade-spec =
     tie.close
-    (tie.spec trade-verdict-requires enum-known-why returns enum-told cast-t8 cast-t9 returns-2)
+    (tie.spec trade-verdict-requires enum-known-why returns enum-told cast-t8 cast-t9 cast-t10 returns-2)
