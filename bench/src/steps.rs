@@ -60,7 +60,14 @@ fn listing(n: usize) -> Event {
 
 fn trade(n: usize) -> Event {
     let buyer = (n / 8) as u8;
-    Event::Trade { series: n as u8 % 8, buyer, seller: buyer + 32, quantity: n as u64 + 1, price: n as u64 + 5_000 }
+    Event::Trade {
+        series: n as u8 % 8,
+        buyer,
+        seller: buyer + 32,
+        quantity: n as u64 + 1,
+        price: n as u64 + 5_000,
+        venue: 0,
+    }
 }
 
 fn mark(n: usize) -> Event {

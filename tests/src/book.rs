@@ -19,6 +19,7 @@ pub const FUTURES_PRICE: RangeInclusive<u64> = 0..=10_000_000;
 /// The bounds of W, and of c too.
 pub const TICK_VALUE: RangeInclusive<u64> = 1..=200_000_000;
 pub const QUANTITY: RangeInclusive<u64> = 1..=1_000;
+pub const VENUE: RangeInclusive<u64> = 0..=9;
 
 #[derive(Clone, Copy, Debug, PartialEq, Eq)]
 pub enum OptionType {
@@ -35,7 +36,7 @@ pub enum Category {
 #[derive(Clone, Copy, Debug, PartialEq, Eq)]
 pub enum Event {
     List { option: OptionType, category: Category, strike: u64, tick: u64, last_day: u64 },
-    Trade { series: u8, buyer: u8, seller: u8, quantity: u64, price: u64 },
+    Trade { series: u8, buyer: u8, seller: u8, quantity: u64, price: u64, venue: u64 },
     Exercise { series: u8, account: u8, quantity: u64 },
     Decline { series: u8, account: u8 },
     Mark { series: u8, option: u64, futures: u64, tick_value: u64 },
@@ -93,6 +94,7 @@ pub struct Trade {
     pub seller: u8,
     pub quantity: i64,
     pub price: u64,
+    pub venue: u64,
 }
 
 #[derive(Clone, Debug, PartialEq, Eq)]
@@ -127,15 +129,15 @@ impl Book {
     }
 
     /// Carries out an event, or refuses it by the lowest number that applies and changes nothing: each event's tests
-    /// stand in the order of their numbers, before its first change.
+    /// stand in the order of their numbers (21 behind 6), before its first change.
     pub fn apply(&mut self, event: Event) -> Result<Done, Refusal> {
         refuse_if(self.day > LAST_DAY, Refusal::Finished)?;
         match event {
             Event::List { option, category, strike, tick, last_day } => {
                 self.list(option, category, strike, tick, last_day).map(Done::Listed)
             }
-            Event::Trade { series, buyer, seller, quantity, price } => {
-                self.trade(series, buyer, seller, quantity, price).map(|()| Done::Entered)
+            Event::Trade { series, buyer, seller, quantity, price, venue } => {
+                self.trade(series, buyer, seller, quantity, price, venue).map(|()| Done::Entered)
             }
             Event::Exercise { series, account, quantity } => {
                 self.exercise(series, account, quantity).map(|()| Done::Entered)
@@ -177,13 +179,22 @@ impl Book {
         Ok((self.series.len() - 1) as u8)
     }
 
-    fn trade(&mut self, number: u8, buyer: u8, seller: u8, quantity: u64, price: u64) -> Result<(), Refusal> {
+    fn trade(
+        &mut self,
+        number: u8,
+        buyer: u8,
+        seller: u8,
+        quantity: u64,
+        price: u64,
+        venue: u64,
+    ) -> Result<(), Refusal> {
         let blotter_is_full = self.blotter.len() == TRADES_A_DAY;
         let series = self.live_series(number)?;
         check_account(buyer)?;
         check_account(seller)?;
         refuse_if(buyer == seller, Refusal::OwnTrade)?;
         refuse_if(!QUANTITY.contains(&quantity), Refusal::Size)?;
+        refuse_if(!VENUE.contains(&venue), Refusal::Venue)?;
         refuse_if(!OPTION_PRICE.contains(&price) || price % series.tick != 0, Refusal::Price)?;
         let quantity = quantity as i64;
         let bought = series.positions[usize::from(buyer)] + quantity;
@@ -192,7 +203,7 @@ impl Book {
         refuse_if(blotter_is_full, Refusal::BlotterFull)?;
         series.positions[usize::from(buyer)] = bought;
         series.positions[usize::from(seller)] = sold;
-        self.blotter.push(Trade { series: number, buyer, seller, quantity, price });
+        self.blotter.push(Trade { series: number, buyer, seller, quantity, price, venue });
         Ok(())
     }
 

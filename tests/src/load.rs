@@ -53,7 +53,8 @@ impl<W: Write> Load<W> {
                 && positions[seller] - (quantity as i64) > -POSITION_LIMIT;
             let (buyer, seller) = if room { (buyer, seller) } else { (seller, buyer) };
             let price = self.price[number] / 100 * 100 + 100 * self.random.below(10);
-            self.row(&format!("T,{number},{buyer},{seller},{quantity},{price}"))?;
+            let venue = self.random.below(10);
+            self.row(&format!("T,{number},{buyer},{seller},{quantity},{price},{venue}"))?;
         }
         Ok(())
     }

@@ -5,7 +5,7 @@ mod code;
 mod damage;
 mod noise;
 
-use crate::book::{Book, ACCOUNTS, LAST_DAY, POSITION_LIMIT, SERIES};
+use crate::book::{Book, ACCOUNTS, LAST_DAY, POSITION_LIMIT, SERIES, VENUE};
 use crate::random::Random;
 use crate::rows;
 
@@ -327,7 +327,9 @@ impl Market {
             }
         }
         let price = self.some_price(number) / tick * tick;
-        self.row("T", &[number, buyer, seller, quantity, price]);
+        // Now and then one past the last venue.
+        let venue = if self.random.one_in(100) { *VENUE.end() + 1 } else { self.random.below(*VENUE.end() + 1) };
+        self.row("T", &[number, buyer, seller, quantity, price, venue]);
     }
 
     fn exercise(&mut self) {

@@ -23,6 +23,7 @@ pub enum Refusal {
     Date,
     StrikeText,
     Row,
+    Venue,
 }
 
 impl Refusal {
@@ -49,6 +50,7 @@ impl Refusal {
             Refusal::Date => 18,
             Refusal::StrikeText => 19,
             Refusal::Row => 20,
+            Refusal::Venue => 21,
         }
     }
 }

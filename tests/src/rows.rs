@@ -108,13 +108,14 @@ fn list_fields(rest: &[u8]) -> Option<(&[u8], u64, u64)> {
 }
 
 fn trade(rest: &[u8]) -> Option<Event> {
-    let [series, buyer, seller, quantity, price] = fields(rest)?;
+    let [series, buyer, seller, quantity, price, venue] = fields(rest)?;
     Some(Event::Trade {
         series: byte(series)?,
         buyer: byte(buyer)?,
         seller: byte(seller)?,
         quantity: number(quantity)?,
         price: number(price)?,
+        venue: number(venue)?,
     })
 }
 
@@ -190,8 +191,8 @@ mod tests {
             })
         );
         assert_eq!(
-            read(b"T,0,1,2,10,15000"),
-            Ok(Event::Trade { series: 0, buyer: 1, seller: 2, quantity: 10, price: 15_000 })
+            read(b"T,0,1,2,10,15000,3"),
+            Ok(Event::Trade { series: 0, buyer: 1, seller: 2, quantity: 10, price: 15_000, venue: 3 })
         );
         assert_eq!(read(b"X,7,63,0"), Ok(Event::Exercise { series: 7, account: 63, quantity: 0 }));
         assert_eq!(read(b"D,3,4"), Ok(Event::Decline { series: 3, account: 4 }));
@@ -227,25 +228,25 @@ mod tests {
             "X",
             "D",
             "M",
-            "T,0,1,2,10",
-            "T,0,1,2,10,15000,",
-            "T,0,1,2,10,15000,0",
-            "T,0,1,2,,15000",
-            "T,,1,2,10,15000",
-            "t,0,1,2,10,15000",
-            "T,0,1,2,010,15000",
-            "T,00,1,2,10,15000",
-            "T,0,1,2,10,-1",
-            "T,0,1,2,10,+1",
-            "T,0,1,2,10,1.0",
-            "T,0,1,2,10, 1",
-            "T,0,1,2,10,1\r",
-            "T,0,1,2,10,1\n",
-            "T;0;1;2;10;1",
-            "T,\"0\",1,2,10,1",
-            "\"T\",0,1,2,10,1",
-            "TT,0,1,2,10,1",
-            "T,0,1,2,10,1000000000000000000",
+            "T,0,1,2,10,15000",
+            "T,0,1,2,10,15000,0,",
+            "T,0,1,2,10,15000,0,0",
+            "T,0,1,2,,15000,0",
+            "T,,1,2,10,15000,0",
+            "t,0,1,2,10,15000,0",
+            "T,0,1,2,010,15000,0",
+            "T,00,1,2,10,15000,0",
+            "T,0,1,2,10,-1,0",
+            "T,0,1,2,10,+1,0",
+            "T,0,1,2,10,1.0,0",
+            "T,0,1,2,10, 1,0",
+            "T,0,1,2,10,1,0\r",
+            "T,0,1,2,10,1,0\n",
+            "T;0;1;2;10;1;0",
+            "T,\"0\",1,2,10,1,0",
+            "\"T\",0,1,2,10,1,0",
+            "TT,0,1,2,10,1,0",
+            "T,0,1,2,10,1000000000000000000,0",
             "X,0,1",
             "X,0,1,2,3",
             "D,0",
@@ -263,7 +264,7 @@ mod tests {
         ] {
             assert_eq!(refusal(row.as_bytes()), 20, "{row:?}");
         }
-        assert_eq!(refusal(b"T,0,1,2,10,\xff"), 20);
+        assert_eq!(refusal(b"T,0,1,2,10,1,\xff"), 20);
         assert_eq!(refusal(b"\xef\xbb\xbfI"), 20);
     }
 

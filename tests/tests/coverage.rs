@@ -173,7 +173,7 @@ fn every_refusal_and_every_kind_of_line() {
     for seed in GATE_SEEDS {
         census.take(&market(seed));
     }
-    let mut wanted: Vec<String> = (1..=20).map(|number| format!("refusal {number}")).collect();
+    let mut wanted: Vec<String> = (1..=21).map(|number| format!("refusal {number}")).collect();
     wanted.extend(
         [
             "A without series",

@@ -54,7 +54,7 @@ impl Reckoning {
                 trades: Vec::new(),
                 futures: [0; ACCOUNTS],
             }),
-            Event::Trade { series, buyer, seller, quantity, price } => {
+            Event::Trade { series, buyer, seller, quantity, price, .. } => {
                 let series = &mut self.series[usize::from(series)];
                 for (account, signed) in [(buyer, quantity as i64), (seller, -(quantity as i64))] {
                     series.position[usize::from(account)] += signed;

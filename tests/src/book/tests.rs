@@ -48,7 +48,7 @@ const CALL: &str = "L,GAZR-3.23M150323CA17000,100,5";
 #[test]
 fn half_of_five() {
     for (kind, half) in [("CA", 3), ("PA", 2)] {
-        let mut book = book(&format!("L,GAZR-3.23M150323{kind}17000,100,0 T,0,1,2,5,0 M,0,0,1700000,100000"));
+        let mut book = book(&format!("L,GAZR-3.23M150323{kind}17000,100,0 T,0,1,2,5,0,0 M,0,0,1700000,100000"));
         let sign = if kind == "CA" { 1 } else { -1 };
         assert_eq!(session(&mut book, "V").futures, [(0, 1, sign * half), (0, 2, -sign * half)]);
     }
@@ -88,30 +88,30 @@ fn shares_add_up_and_nobody_gets_more_than_he_is_short() {
 #[test]
 fn limits() {
     let mut book = book(CALL);
-    run(&mut book, "T,0,1,2,1000,0");
-    assert_eq!(refused(&mut book, "T,0,1,2,1001,0"), 6);
-    assert_eq!(refused(&mut book, "T,0,1,2,0,0"), 6);
-    run(&mut book, &"T,0,1,2,1000,0 ".repeat(99));
+    run(&mut book, "T,0,1,2,1000,0,0");
+    assert_eq!(refused(&mut book, "T,0,1,2,1001,0,0"), 6);
+    assert_eq!(refused(&mut book, "T,0,1,2,0,0,0"), 6);
+    run(&mut book, &"T,0,1,2,1000,0,0 ".repeat(99));
     assert_eq!(book.series[0].positions[1], 100_000);
     assert_eq!(book.series[0].positions[2], -100_000);
-    assert_eq!(refused(&mut book, "T,0,1,3,1,0"), 8);
-    assert_eq!(refused(&mut book, "T,0,3,2,1,0"), 8);
-    run(&mut book, "T,0,2,1,1,0");
-    run(&mut book, "T,0,1,2,1,0");
+    assert_eq!(refused(&mut book, "T,0,1,3,1,0,0"), 8);
+    assert_eq!(refused(&mut book, "T,0,3,2,1,0,0"), 8);
+    run(&mut book, "T,0,2,1,1,0,0");
+    run(&mut book, "T,0,1,2,1,0,0");
 }
 
 // 01, the false friends.
 
 #[test]
 fn the_evening_price_is_valued_with_todays_coefficient() {
-    let mut book = book(&format!("{CALL} T,0,0,1,1,100 M,0,1000,0,100000 V M,0,1000,0,200000"));
+    let mut book = book(&format!("{CALL} T,0,0,1,1,100,0 M,0,1000,0,100000 V M,0,1000,0,200000"));
     // n × V(p) − B × V(b) is 0 with one c; yesterday's c would leave 1000.
     assert_eq!(session(&mut book, "V").money, first(&[]));
 }
 
 #[test]
 fn the_intraday_price_counts_on_the_last_day() {
-    let mut book = book("L,GAZR-3.23M150323CA17000,100,0 T,0,0,1,1,100 M,0,300,0,100000");
+    let mut book = book("L,GAZR-3.23M150323CA17000,100,0 T,0,0,1,1,100,0 M,0,300,0,100000");
     assert_eq!(session(&mut book, "I").money, first(&[200, -200]));
     run(&mut book, "M,0,300,0,100000");
     // VM is 0 × V(300) − V(100).
@@ -159,45 +159,46 @@ fn trade_refusals_in_their_order() {
     let mut book = book(&format!("L,GAZR-3.23M150323CA17000,100,0 {CALL} M,0,0,0,100000 M,1,0,0,100000 V"));
     // Each row mends the first fault of the one before.
     for (row, number) in [
-        ("T,2,64,64,1001,1000050", 2),
-        ("T,255,64,64,1001,1000050", 2),
-        ("T,300,64,64,1001,1000050", 2),
-        ("T,0,64,64,1001,1000050", 3),
-        ("T,1,64,64,1001,1000050", 4),
-        ("T,1,300,1,1001,1000050", 4),
-        ("T,1,1,64,1001,1000050", 4),
-        ("T,1,1,1,1001,1000050", 5),
-        ("T,1,1,2,1001,1000050", 6),
-        ("T,1,1,2,1000,1000050", 7),
-        ("T,1,1,2,1000,1000100", 7),
-        ("T,1,1,2,1000,150", 7),
+        ("T,2,64,64,1001,1000050,0", 2),
+        ("T,255,64,64,1001,1000050,0", 2),
+        ("T,300,64,64,1001,1000050,0", 2),
+        ("T,0,64,64,1001,1000050,0", 3),
+        ("T,1,64,64,1001,1000050,0", 4),
+        ("T,1,300,1,1001,1000050,0", 4),
+        ("T,1,1,64,1001,1000050,0", 4),
+        ("T,1,1,1,1001,1000050,0", 5),
+        ("T,1,1,2,1001,1000050,10", 6),
+        ("T,1,1,2,1000,1000050,10", 21),
+        ("T,1,1,2,1000,1000050,0", 7),
+        ("T,1,1,2,1000,1000100,0", 7),
+        ("T,1,1,2,1000,150,0", 7),
     ] {
         assert_eq!(refused(&mut book, row), number, "{row}");
     }
-    run(&mut book, &"T,1,1,2,1000,1000000 ".repeat(100));
-    run(&mut book, &"T,1,3,4,1,0 ".repeat(156));
-    assert_eq!(refused(&mut book, "T,1,1,2,1,50"), 7);
-    assert_eq!(refused(&mut book, "T,1,1,2,1,0"), 8);
-    assert_eq!(refused(&mut book, "T,1,3,4,1,0"), 9);
+    run(&mut book, &"T,1,1,2,1000,1000000,0 ".repeat(100));
+    run(&mut book, &"T,1,3,4,1,0,0 ".repeat(156));
+    assert_eq!(refused(&mut book, "T,1,1,2,1,50,0"), 7);
+    assert_eq!(refused(&mut book, "T,1,1,2,1,0,0"), 8);
+    assert_eq!(refused(&mut book, "T,1,3,4,1,0,0"), 9);
 }
 
 #[test]
 fn the_blotter_is_one_for_all_series_and_free_again_each_day() {
     let mut book = book(&format!("{CALL} {CALL}"));
-    run(&mut book, &"T,0,1,2,1,0 T,1,1,2,1,0 ".repeat(128));
-    assert_eq!(refused(&mut book, "T,0,1,2,1,0"), 9);
+    run(&mut book, &"T,0,1,2,1,0,0 T,1,1,2,1,0,0 ".repeat(128));
+    assert_eq!(refused(&mut book, "T,0,1,2,1,0,0"), 9);
     run(&mut book, "M,0,0,0,100000 M,1,0,0,100000 I");
-    assert_eq!(refused(&mut book, "T,1,1,2,1,0"), 9);
+    assert_eq!(refused(&mut book, "T,1,1,2,1,0,0"), 9);
     run(&mut book, "M,0,0,0,100000 M,1,0,0,100000 V");
-    run(&mut book, &"T,0,1,2,1,0 ".repeat(256));
-    assert_eq!(refused(&mut book, "T,0,1,2,1,0"), 9);
+    run(&mut book, &"T,0,1,2,1,0,0 ".repeat(256));
+    assert_eq!(refused(&mut book, "T,0,1,2,1,0,0"), 9);
 }
 
 #[test]
 fn exercise_refusals_in_their_order() {
     let mut book =
         book("L,GAZR-3.23M150323CA17000,100,0 L,GAZR-3.23M150323CE17000,100,2 M,0,0,0,100000 M,1,0,0,100000 V");
-    run(&mut book, "T,1,1,2,5,0");
+    run(&mut book, "T,1,1,2,5,0,0");
     for (row, number) in [
         ("X,2,64,6", 2),
         ("X,0,64,6", 3),
@@ -277,10 +278,10 @@ fn sessions_without_live_series() {
 fn after_the_evening_of_day_999() {
     let mut book = book(&"V ".repeat(999));
     assert_eq!(book.day, 999);
-    run(&mut book, "L,GAZR-3.23M150323CA17000,100,999 T,0,1,2,3,0 M,0,0,0,100000 I M,0,0,0,100000 V");
+    run(&mut book, "L,GAZR-3.23M150323CA17000,100,999 T,0,1,2,3,0,0 M,0,0,0,100000 I M,0,0,0,100000 V");
     assert_eq!(book.day, 1000);
     for row in
-        [CALL, "L,GAZR-3.23M150323CA17000,0,0", "T,0,1,2,3,0", "T,9,1,1,0,0", "X,0,1,1", "D,0,1", "M,0,0,0,0", "I", "V"]
+        [CALL, "L,GAZR-3.23M150323CA17000,0,0", "T,0,1,2,3,0,0", "T,9,1,1,0,0,0", "X,0,1,1", "D,0,1", "M,0,0,0,0", "I", "V"]
     {
         assert_eq!(refused(&mut book, row), 1, "{row}");
     }
@@ -290,9 +291,9 @@ fn after_the_evening_of_day_999() {
 
 #[test]
 fn the_first_evening_knows_no_evening_before() {
-    let mut book = book(&format!("{CALL} T,0,0,1,10,500 M,0,700,0,100000"));
+    let mut book = book(&format!("{CALL} T,0,0,1,10,500,0 M,0,700,0,100000"));
     assert_eq!(session(&mut book, "V").money, first(&[2000, -2000]));
-    run(&mut book, "T,0,2,0,4,600 M,0,650,0,100000");
+    run(&mut book, "T,0,2,0,4,600,0 M,0,650,0,100000");
     // 6 × 650 − 10 × 700 + 4 × 600; −10 × 650 + 10 × 700; 4 × 650 − 4 × 600.
     assert_eq!(session(&mut book, "V").money, first(&[-700, 500, 200]));
 }
@@ -300,7 +301,7 @@ fn the_first_evening_knows_no_evening_before() {
 #[test]
 fn an_intraday_session_changes_no_evening_cash() {
     let day = |intraday: &str| {
-        let mut book = book(&format!("{CALL} T,0,0,1,10,500 {intraday} T,0,2,0,4,600 M,0,650,0,100000 V"));
+        let mut book = book(&format!("{CALL} T,0,0,1,10,500,0 {intraday} T,0,2,0,4,600,0 M,0,650,0,100000 V"));
         run(&mut book, "M,0,1,1,3333 V");
         book.cash
     };
@@ -310,20 +311,20 @@ fn an_intraday_session_changes_no_evening_cash() {
 #[test]
 fn a_series_listed_after_the_intraday_session_has_paid_nothing() {
     let mut book = book(&format!(
-        "{CALL} T,0,0,1,1,100 M,0,300,0,100000 I {CALL} T,1,0,1,1,100 M,0,300,0,100000 M,1,500,0,100000"
+        "{CALL} T,0,0,1,1,100,0 M,0,300,0,100000 I {CALL} T,1,0,1,1,100,0 M,0,300,0,100000 M,1,500,0,100000"
     ));
     assert_eq!(session(&mut book, "V").money, first(&[400, -400]));
 }
 
 #[test]
 fn a_later_mark_replaces_an_earlier_one() {
-    let mut book = book(&format!("{CALL} T,0,0,1,1,100 M,0,300,0,100000 M,0,400,0,100000"));
+    let mut book = book(&format!("{CALL} T,0,0,1,1,100,0 M,0,300,0,100000 M,0,400,0,100000"));
     assert_eq!(session(&mut book, "V").money, first(&[300, -300]));
 }
 
 #[test]
 fn american_exercise_before_the_last_day() {
-    let mut book = book(&format!("{CALL} T,0,0,1,10,0 X,0,0,9 X,0,0,4 M,0,300,0,100000"));
+    let mut book = book(&format!("{CALL} T,0,0,1,10,0,0 X,0,0,9 X,0,0,4 M,0,300,0,100000"));
     let session = session(&mut book, "V");
     // n is the position after exercise.
     assert_eq!(session.money, first(&[6 * 300, -6 * 300]));
@@ -336,10 +337,10 @@ fn american_exercise_before_the_last_day() {
 
 #[test]
 fn a_request_stays_when_the_position_shrinks() {
-    let mut book = book(&format!("{CALL} T,0,0,1,10,0 X,0,0,9 T,0,2,0,7,0 M,0,300,0,100000"));
+    let mut book = book(&format!("{CALL} T,0,0,1,10,0,0 X,0,0,9 T,0,2,0,7,0,0 M,0,300,0,100000"));
     assert_eq!(session(&mut book, "V").futures, [(0, 0, 3), (0, 1, -3)]);
     // A position gone short exercises nothing.
-    let mut book = self::book(&format!("{CALL} T,0,0,1,10,0 X,0,0,9 T,0,2,0,17,0 M,0,300,0,100000"));
+    let mut book = self::book(&format!("{CALL} T,0,0,1,10,0,0 X,0,0,9 T,0,2,0,17,0,0 M,0,300,0,100000"));
     assert_eq!(session(&mut book, "V").futures, []);
 }
 
@@ -354,7 +355,7 @@ fn in_at_and_out_of_the_money() {
         ("PE", 1_700_000, -2),
         ("PE", 1_700_001, 0),
     ] {
-        let mut book = book(&format!("L,GAZR-3.23M150323{kind}17000,100,0 T,0,0,1,5,0 M,0,0,{futures},100000 V"));
+        let mut book = book(&format!("L,GAZR-3.23M150323{kind}17000,100,0 T,0,0,1,5,0,0 M,0,0,{futures},100000 V"));
         assert_eq!(book.series[0].futures, first(&[exercised, -exercised]), "{kind} {futures}");
         assert_eq!(book.series[0].positions, first(&[]));
         assert_eq!(refused(&mut book, "X,0,0,0"), 3);
@@ -375,7 +376,7 @@ fn requests_and_declines_on_the_last_day() {
         ("D,0,0 X,0,0,0", 3),
         ("D,0,1", 3),
     ] {
-        let mut book = book(&format!("L,GAZR-3.23M150323CE17000,100,0 T,0,0,1,5,0 {rows} M,0,0,1700000,100000"));
+        let mut book = book(&format!("L,GAZR-3.23M150323CE17000,100,0 T,0,0,1,5,0,0 {rows} M,0,0,1700000,100000"));
         session(&mut book, "V");
         assert_eq!(book.series[0].futures, first(&[exercised, -exercised]), "{rows}");
     }
@@ -383,7 +384,7 @@ fn requests_and_declines_on_the_last_day() {
 
 #[test]
 fn futures_by_series_and_account() {
-    let mut book = book(&format!("{CALL} L,GAZR-3.23M150323PA17000,100,5 T,0,5,0,2,0 T,1,1,9,2,0 X,0,5,2 X,1,1,1"));
+    let mut book = book(&format!("{CALL} L,GAZR-3.23M150323PA17000,100,5 T,0,5,0,2,0,0 T,1,1,9,2,0,0 X,0,5,2 X,1,1,1"));
     run(&mut book, "M,0,0,0,100000 M,1,0,0,100000");
     assert_eq!(session(&mut book, "V").futures, [(0, 0, -2), (0, 5, 2), (1, 1, -1), (1, 9, 1)]);
 }

@@ -55,7 +55,7 @@ fn long_row(random: &mut Random) -> Vec<u8> {
     let (front, back): (&[u8], &[u8]) = random.pick(&[
         (b"L,GAZR-3.23M150323CA", b",100,999"),
         (b"L,", b",100,999"),
-        (b"T,0,1,2,1,", b""),
+        (b"T,0,1,2,1,0,", b""),
         (b"I", b""),
         (b"", b",0"),
     ]);

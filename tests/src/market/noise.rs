@@ -35,7 +35,7 @@ fn short_rows(random: &mut Random, count: usize) -> Vec<u8> {
         b"",
         b"M,0,1,2,3",
         b"L,A-1.00M010100CA1,1,999",
-        b"T,0,1,2,3,4",
+        b"T,0,1,2,3,4,5",
         b"D,0,1",
         b"X,0,1,1",
         b"T",
