@@ -77,6 +77,7 @@ pub fn is_session(event: Event) -> bool
         Event::Exercise(_) => false,
         Event::Decline(_) => false,
         Event::Mark(_) => false,
+        Event::Unmark(_) => false,
         Event::Intraday => true,
         Event::Evening => true,
     }

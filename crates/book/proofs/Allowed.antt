@@ -20,14 +20,15 @@ use Rattle.series.specs.declared.event.Deal.{Deal}
 use Rattle.series.specs.declared.event.Request.{Request}
 use Rattle.series.specs.declared.event.Waiver.{Waiver}
 use Rattle.series.specs.declared.event.Quote.{Quote}
+use Rattle.series.specs.declared.event.Withdrawal.{Withdrawal}
 use Rattle.series.specs.declared.refusal.Refusal.{Refusal}
 use Rattle.series.specs.declared.refusal.Verdict.{Verdict}
 use Rattle.series.specs.declared.refusal.Verdict.the-variants.{Allowed, Refused}
 use Rattle.series.specs.declared.state.Listing.{Listing}
 use Rattle.book.specs.State.{seriesAt, live, todayOf}
-use Rattle.book.specs.Verdicts.{listVerdict, tradeVerdict, exerciseVerdict, declineVerdict, markVerdict, lacksMark, firstFrom, firstUnmarked, needsMark, verdictOf}
+use Rattle.book.specs.Verdicts.{listVerdict, tradeVerdict, exerciseVerdict, declineVerdict, markVerdict, unmarkVerdict, lacksMark, firstFrom, firstUnmarked, needsMark, verdictOf}
 use Rattle.book.specs.declared.state.Book.{Book}
-use Rattle.book.specs.declared.state.Event.the-variants.{List, Trade, Exercise, Decline, Mark, Intraday, Evening}
+use Rattle.book.specs.declared.state.Event.the-variants.{List, Trade, Exercise, Decline, Mark, Unmark, Intraday, Evening}
 use Rattle.book.specs.declared.state.Found.{Found}
 use Rattle.book.specs.declared.state.Found.the-variants.{At, Nothing}
 use Rattle.book.specs.declared.state.Today.{Today}
@@ -206,6 +207,21 @@ mark-allowed t l q e =
       coefficient = ltb-false maxTickValue (coefficientOf (q .«tick_value») (l .tick)) (p9 .failed);
     }
 
+pub record UnmarkAllowed (t : Today) (l : Listing) (w : Withdrawal) : Type 0 where
+  pub day : t .day ≤ finalDay
+  pub listed : w .series < t .listed
+  pub live : t .day ≤ l .«last_day»
+
+pub unmark-allowed : (t : Today) (l : Listing) (w : Withdrawal) → unmarkVerdict t l w ≡ Allowed → UnmarkAllowed t l w
+unmark-allowed t l w e =
+    let p1 = passed _ _ _ e in
+    let p2 = passed _ _ _ (p1 .rest) in
+    let p3 = passed _ _ _ (p2 .rest) in record {
+      day = ltb-false finalDay (t .day) (p1 .failed);
+      listed = leb-false (t .listed) (w .series) (p2 .failed);
+      live = ltb-false (l .«last_day») (t .day) (p3 .failed);
+    }
+
 -- ---- the same in a book
 abbrev pub CanTrade : Book → Deal → Type 0
 CanTrade b d = TradeAllowed (todayOf b) (seriesAt b (d .series) .listing) (seriesAt b (d .series) .positions) d
@@ -218,6 +234,9 @@ CanDecline b w = DeclineAllowed (todayOf b) (seriesAt b (w .series) .listing) w
 
 abbrev pub CanMark : Book → Quote → Type 0
 CanMark b q = MarkAllowed (todayOf b) (seriesAt b (q .series) .listing) q
+
+abbrev pub CanUnmark : Book → Withdrawal → Type 0
+CanUnmark b w = UnmarkAllowed (todayOf b) (seriesAt b (w .series) .listing) w
 
 module _ (b : Book) where
   pub allowed-list : (n : NewSeries) → verdictOf b (List n) ≡ Allowed → ListAllowed (todayOf b) n
@@ -234,6 +253,9 @@ module _ (b : Book) where
 
   pub allowed-mark : (q : Quote) → verdictOf b (Mark q) ≡ Allowed → CanMark b q
   allowed-mark q e = mark-allowed (todayOf b) (seriesAt b (q .series) .listing) q e
+
+  pub allowed-unmark : (w : Withdrawal) → verdictOf b (Unmark w) ≡ Allowed → CanUnmark b w
+  allowed-unmark w e = unmark-allowed (todayOf b) (seriesAt b (w .series) .listing) w e
 
 -- ---- sessions
 -- every live series has its mark

@@ -1,4 +1,4 @@
--- An event on one series (a listing, a trade, a request, a refusal or a mark) that is carried out keeps what holds of every book.
+-- An event on one series (a listing, a trade, a request, a refusal, a mark or a mark taken back) that is carried out keeps what holds of every book.
 use mathlib.Core.Path.{_≡_, refl, _∙_}
 use mathlib.Core.Logic.{_≢_}
 use mathlib.Core.List.{List}
@@ -10,7 +10,7 @@ use lib.Seq.{getD-set-same, getD-set-other}
 use Rattle.margin.specs.Margin.{noTrade}
 use Rattle.margin.specs.declared.trade.Trade.{Trade}
 use Rattle.terms.specs.Bounds.{seriesRoom, blotterRoom}
-use Rattle.series.specs.Changes.{listingOf, traded, requested, declinedBy, marked}
+use Rattle.series.specs.Changes.{listingOf, traded, requested, declinedBy, marked, unmarked}
 use Rattle.series.specs.Good.{GoodSeries}
 use Rattle.series.specs.Series.{newSeries}
 use Rattle.series.specs.declared.event.NewSeries.{NewSeries}
@@ -18,13 +18,14 @@ use Rattle.series.specs.declared.event.Deal.{Deal}
 use Rattle.series.specs.declared.event.Request.{Request}
 use Rattle.series.specs.declared.event.Waiver.{Waiver}
 use Rattle.series.specs.declared.event.Quote.{Quote}
+use Rattle.series.specs.declared.event.Withdrawal.{Withdrawal}
 use Rattle.series.specs.declared.state.Series.{Series}
-use Rattle.series.proofs.Keeps.{CanMove, good-new, good-traded, good-requested, good-declined, good-marked}
+use Rattle.series.proofs.Keeps.{CanMove, good-new, good-traded, good-requested, good-declined, good-marked, good-unmarked}
 use Rattle.book.specs.Good.{Good, GoodTrade, Idle}
 use Rattle.book.specs.State.{seriesAt, tradeAt, todayOf, withSeries, withBlotter, noSeries, noListing}
 use Rattle.book.specs.Step.{listed, entryOf, withTrade}
 use Rattle.book.specs.declared.state.Book.{Book}
-use Rattle.book.proofs.Allowed.{ListAllowed, CanTrade, CanExercise, CanDecline, CanMark}
+use Rattle.book.proofs.Allowed.{ListAllowed, CanTrade, CanExercise, CanDecline, CanMark, CanUnmark}
 use Rattle.book.proofs.Payments.{not-live-before}
 
 -- what holds of v at i and of all other elements of a list holds of each, once v is stored at i
@@ -113,6 +114,12 @@ module _ (b : Book) (g : Good b) where
   good-mark q c =
       good-with-series (q .series) (c .listed) (c .live) (marked (seriesAt b (q .series)) q) refl
       (good-marked (b .day) (seriesAt b (q .series)) (good-series (c .listed)) q (c .option) (c .coefficient))
+
+  pub good-unmark : (w : Withdrawal) → CanUnmark b w
+      → Good (withSeries b (w .series) (unmarked (seriesAt b (w .series))))
+  good-unmark w c =
+      good-with-series (w .series) (c .listed) (c .live) (unmarked (seriesAt b (w .series))) refl
+      (good-unmarked (b .day) (seriesAt b (w .series)) (good-series (c .listed)))
 
 -- ---- a trade: it moves the positions, then it joins the blotter
 withEntry : Book → Trade → Book

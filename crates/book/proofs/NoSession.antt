@@ -23,7 +23,7 @@ use Rattle.book.specs.declared.state.Answer.{Answer}
 use Rattle.book.specs.declared.state.Answer.the-variants as answer
 use Rattle.book.specs.declared.state.Book.{Book}
 use Rattle.book.specs.declared.state.Event.{Event}
-use Rattle.book.specs.declared.state.Event.the-variants.{List, Trade, Exercise, Decline, Mark, Intraday, Evening}
+use Rattle.book.specs.declared.state.Event.the-variants.{List, Trade, Exercise, Decline, Mark, Unmark, Intraday, Evening}
 use Rattle.book.specs.declared.state.Found.the-variants.{Nothing}
 use Rattle.book.specs.declared.state.Step.{Step}
 use Rattle.book.proofs.Allowed.{allowed-list}
@@ -102,6 +102,7 @@ listed-since b g e i p a lt = by (verdictOf b e) refl p
     carried (Exercise q) v r = absurd (other (ap number r))
     carried (Decline w) v r = absurd (other (ap number r))
     carried (Mark q) v r = absurd (other (ap number r))
+    carried (Unmark w) v r = absurd (other (ap number r))
     carried Intraday v r = absurd (other (ap number r))
     carried Evening v r = absurd (other (ap number r))
 
@@ -120,6 +121,7 @@ only-sessions-pay b e n m = by (verdictOf b e)
     carried (Exercise q) n m = refl
     carried (Decline w) n m = refl
     carried (Mark q) n m = refl
+    carried (Unmark w) n m = refl
     carried Intraday n m = absurd (n refl)
     carried Evening n m = absurd (m refl)
 

@@ -16,6 +16,7 @@ use Rattle.series.specs.declared.event.Deal.{Deal}
 use Rattle.series.specs.declared.event.Request.{Request}
 use Rattle.series.specs.declared.event.Waiver.{Waiver}
 use Rattle.series.specs.declared.event.Quote.{Quote}
+use Rattle.series.specs.declared.event.Withdrawal.{Withdrawal}
 use Rattle.series.specs.declared.state.Listing.{Listing}
 use Rattle.series.specs.declared.refusal.Refusal.the-variants.{Finished, UnknownSeries, Expired, UnknownAccount, OwnTrade, Size, Price, PositionLimit, BlotterFull, Terms, SeriesFull, NotToday, NotHeld, TickValue, SecondIntraday, NoMark}
 use Rattle.series.specs.declared.refusal.Verdict.{Verdict}
@@ -23,7 +24,7 @@ use Rattle.series.specs.declared.refusal.Verdict.the-variants.{Allowed, Refused
 use Rattle.book.specs.State.{seriesAt, live, todayOf}
 use Rattle.book.specs.declared.state.Book.{Book}
 use Rattle.book.specs.declared.state.Event.{Event}
-use Rattle.book.specs.declared.state.Event.the-variants.{List, Trade, Exercise, Decline, Mark, Intraday, Evening}
+use Rattle.book.specs.declared.state.Event.the-variants.{List, Trade, Exercise, Decline, Mark, Unmark, Intraday, Evening}
 use Rattle.book.specs.declared.state.Found.{Found}
 use Rattle.book.specs.declared.state.Found.the-variants.{At, Nothing}
 use Rattle.book.specs.declared.state.Today.{Today}
@@ -106,6 +107,14 @@ markVerdict t l q =
     (choose (ltb maxTickValue (coefficientOf (q .«tick_value») (l .tick))) (Refused TickValue)
     Allowed))))))))
 
+-- a mark taken back, whether one stands or not
+abbrev pub unmarkVerdict : Today → Listing → Withdrawal → Verdict
+unmarkVerdict t l w =
+    choose (finished t) (Refused Finished)
+    (choose (unlisted t (w .series)) (Refused UnknownSeries)
+    (choose (pastLast l (t .day)) (Refused Expired)
+    Allowed))
+
 -- a live series lacks a mark
 abbrev pub lacksMark : Book → ℕ → Bool
 lacksMark b i = live b i && not (seriesAt b i .mark .made)
@@ -142,5 +151,6 @@ verdictOf b (Trade d) = tradeVerdict (todayOf b) (seriesAt b (d .series) .listin
 verdictOf b (Exercise r) = exerciseVerdict (todayOf b) (seriesAt b (r .series) .listing) (seriesAt b (r .series) .positions) r
 verdictOf b (Decline w) = declineVerdict (todayOf b) (seriesAt b (w .series) .listing) w
 verdictOf b (Mark q) = markVerdict (todayOf b) (seriesAt b (q .series) .listing) q
+verdictOf b (Unmark w) = unmarkVerdict (todayOf b) (seriesAt b (w .series) .listing) w
 verdictOf b Intraday = intradayVerdict b
 verdictOf b Evening = eveningVerdict b

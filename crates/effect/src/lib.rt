@@ -3,6 +3,7 @@ use book::state::Effect;
 use book::state::Event;
 use book::state::Today;
 use marking::effect::mark;
+use marking::effect::unmark;
 use places::PLACES;
 use requests::effect::decline;
 use requests::effect::exercise;
@@ -24,6 +25,7 @@ pub fn series_of(event: Event) -> usize
         Event::Exercise(request) => request.series as usize,
         Event::Decline(waiver) => waiver.series as usize,
         Event::Mark(quote) => quote.series as usize,
+        Event::Unmark(withdrawal) => withdrawal.series as usize,
         Event::Intraday => SERIES,
         Event::Evening => SERIES,
     }
@@ -40,6 +42,7 @@ pub fn effect(today: Today, listing: Listing, positions: &[i32; PLACES], event: 
         Event::Exercise(request) => exercise(today, listing, positions, request),
         Event::Decline(waiver) => decline(today, listing, waiver),
         Event::Mark(quote) => mark(today, listing, quote),
+        Event::Unmark(withdrawal) => unmark(today, listing, withdrawal),
         Event::Intraday => Effect::Refused(Refusal::UnknownSeries),
         Event::Evening => Effect::Refused(Refusal::UnknownSeries),
     }

@@ -1,6 +1,7 @@
 // The conditions, tested in the order of the refusals' numbers.
 use book::state::Today;
 use series::event::Quote;
+use series::event::Withdrawal;
 use series::refusal::Refusal;
 use series::refusal::Verdict;
 use series::state::Listing;
@@ -43,6 +44,22 @@ pub fn mark_verdict(today: Today, listing: Listing, quote: Quote) -> Verdict
     }
     if MAX_TICK_VALUE < c {
         return Verdict::Refused(Refusal::TickValue);
+    }
+    Verdict::Allowed
+}
+
+// May the mark of a series of this listing be taken back?
+pub fn unmark_verdict(today: Today, listing: Listing, withdrawal: Withdrawal) -> Verdict
+    ensures { λ r. ⌜ r ≡ rule.unmarkVerdict today listing withdrawal ⌝ }
+{
+    if FINAL_DAY < today.day {
+        return Verdict::Refused(Refusal::Finished);
+    }
+    if today.listed <= withdrawal.series as usize {
+        return Verdict::Refused(Refusal::UnknownSeries);
+    }
+    if listing.last_day < today.day {
+        return Verdict::Refused(Refusal::Expired);
     }
     Verdict::Allowed
 }

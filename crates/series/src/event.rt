@@ -41,3 +41,8 @@ pub struct Quote {
     pub future: u64,
     pub tick_value: u64,
 }
+
+// A series' mark to be taken back.
+pub struct Withdrawal {
+    pub series: u8,
+}

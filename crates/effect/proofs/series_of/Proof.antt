@@ -32,6 +32,12 @@ enum-known-event-4 c = search needs
 cast-result-4 : tie.Need-cast-result-4
 cast-result-4 c = search needs
 
+enum-known-event-5 : tie.Need-enum-known-event-5
+enum-known-event-5 c = search needs
+
+cast-result-5 : tie.Need-cast-result-5
+cast-result-5 c = search needs
+
 enum-told-2 : tie.Need-enum-told-2
 enum-told-2 c = search needs
 
@@ -59,6 +65,9 @@ returns-6 c = search needs
 returns-7 : tie.Need-returns-7
 returns-7 c = search needs
 
+returns-8 : tie.Need-returns-8
+returns-8 c = search needs
+
 pub series-of-spec : {M : Type 1} → statement M
 series-of-spec =
     tie.close
@@ -72,6 +81,8 @@ series-of-spec =
     cast-result-3
     enum-known-event-4
     cast-result-4
+    enum-known-event-5
+    cast-result-5
     enum-told-2
     enum-told-3
     returns
@@ -80,4 +91,5 @@ series-of-spec =
     returns-4
     returns-5
     returns-6
-    returns-7)
+    returns-7
+    returns-8)

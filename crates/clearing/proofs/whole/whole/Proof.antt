@@ -17,7 +17,7 @@ use Rattle.book.specs.Step.{stepOf, refused}
 use Rattle.book.specs.Verdicts.{finished, unlisted, verdictOf}
 use Rattle.book.specs.declared.state.Book.{Book}
 use Rattle.book.specs.declared.state.Event.{Event}
-use Rattle.book.specs.declared.state.Event.the-variants.{List, Trade, Exercise, Decline, Mark, Intraday, Evening}
+use Rattle.book.specs.declared.state.Event.the-variants.{List, Trade, Exercise, Decline, Mark, Unmark, Intraday, Evening}
 use Rattle.book.specs.declared.state.Step.{Step}
 use Rattle.book.proofs.Decided.{by-refusal}
 use Rattle.book.proofs.Effects.{no-such-series}
@@ -37,14 +37,15 @@ module _ (b : Book) (good : Good b) {r : Step} (p : r ≡ refused b (choose (fin
       → r ≡ stepOf b e
   past-all e v le is = by-refusal b e p (no-such-series b (seriesOf e) v (omega (arith, good .listed, le)) ∙ sym is)
 
-  on-none : (e : Event) → seriesRoom ≤ seriesOf e → OneOf (1 ∷ 2 ∷ 3 ∷ 4 ∷ []) (tagOf laid.the-type e) → r ≡ stepOf b e
-  on-none (List n) le k = absurd (miss (1 ∷ 2 ∷ 3 ∷ 4 ∷ []) 0 tt k)
+  on-none : (e : Event) → seriesRoom ≤ seriesOf e → OneOf (1 ∷ 2 ∷ 3 ∷ 4 ∷ 5 ∷ []) (tagOf laid.the-type e) → r ≡ stepOf b e
+  on-none (List n) le k = absurd (miss (1 ∷ 2 ∷ 3 ∷ 4 ∷ 5 ∷ []) 0 tt k)
   on-none (Trade d) le k = past-all (Trade d) _ le refl
   on-none (Exercise q) le k = past-all (Exercise q) _ le refl
   on-none (Decline w) le k = past-all (Decline w) _ le refl
   on-none (Mark q) le k = past-all (Mark q) _ le refl
-  on-none Intraday le k = absurd (miss (1 ∷ 2 ∷ 3 ∷ 4 ∷ []) 5 tt k)
-  on-none Evening le k = absurd (miss (1 ∷ 2 ∷ 3 ∷ 4 ∷ []) 6 tt k)
+  on-none (Unmark w) le k = past-all (Unmark w) _ le refl
+  on-none Intraday le k = absurd (miss (1 ∷ 2 ∷ 3 ∷ 4 ∷ 5 ∷ []) 6 tt k)
+  on-none Evening le k = absurd (miss (1 ∷ 2 ∷ 3 ∷ 4 ∷ 5 ∷ []) 7 tt k)
 
 enum-known-event : tie.Need-enum-known-event
 enum-known-event c = search needs
