@@ -8,8 +8,9 @@ use series::event::Deal;
 use series::event::Quote;
 use series::event::Request;
 use series::event::Waiver;
+use series::event::Withdrawal;
 ghost use mathlib.Core.Path.{_≡_};
-ghost use Rattle.rows.specs.Row.{atEnd, tradeRow, exerciseRow, declineRow, markRow, intradayRow, eveningRow};
+ghost use Rattle.rows.specs.Row.{atEnd, tradeRow, exerciseRow, declineRow, markRow, unmarkRow, intradayRow, eveningRow};
 
 // An event whose row has to end at a place.
 fn at_end(s: &[u8], at: usize, event: Event) -> Row
@@ -172,6 +173,20 @@ pub fn mark(s: &[u8]) -> Row
             tick_value,
         }),
     )
+}
+
+// U,series
+pub fn unmark(s: &[u8]) -> Row
+    ensures { λ r. ⌜ r ≡ unmarkRow (now (s .entry)) ⌝ }
+{
+    let ByteRead::Byte {
+        value: series,
+        next: a,
+    } = row_fields::byte(s, 1)
+    else {
+        return Row::Refused(Refusal::Row);
+    };
+    at_end(s, a, Event::Unmark(Withdrawal { series }))
 }
 
 // I

@@ -26,6 +26,7 @@ pub fn read_row(s: &[u8]) -> Row
         b'X' => kind::exercise(s),
         b'D' => kind::decline(s),
         b'M' => kind::mark(s),
+        b'U' => kind::unmark(s),
         b'I' => kind::intraday(s),
         b'V' => kind::evening(s),
         _ => Row::Refused(Refusal::Row),

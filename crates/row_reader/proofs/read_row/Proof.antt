@@ -30,6 +30,9 @@ decline-requires c κs = search needs
 mark-requires : tie.Need-mark-requires
 mark-requires c κs = search needs
 
+unmark-requires : tie.Need-unmark-requires
+unmark-requires c κs = search needs
+
 intraday-requires : tie.Need-intraday-requires
 intraday-requires c κs = search needs
 
@@ -65,7 +68,11 @@ unfolding byLetter choose
 returns-9 c = search row-letter
 
 returns-10 : tie.Need-returns-10
-returns-10 c = search row-other
+unfolding byLetter choose
+returns-10 c = search row-letter
+
+returns-11 : tie.Need-returns-11
+returns-11 c = search row-other
 
 pub read-row-spec : {M : Type 1} → statement M
 read-row-spec =
@@ -79,6 +86,7 @@ read-row-spec =
     exercise-requires
     decline-requires
     mark-requires
+    unmark-requires
     intraday-requires
     evening-requires
     returns-3
@@ -88,4 +96,5 @@ read-row-spec =
     returns-7
     returns-8
     returns-9
-    returns-10)
+    returns-10
+    returns-11)
