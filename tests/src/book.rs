@@ -1,4 +1,4 @@
-//! 01, "Events": the book, its seven events and the two sessions.
+//! 01, "Events": the book, its eight events and the two sessions.
 
 use std::cmp::Reverse;
 use std::ops::RangeInclusive;
@@ -39,6 +39,7 @@ pub enum Event {
     Exercise { series: u8, account: u8, quantity: u64 },
     Decline { series: u8, account: u8 },
     Mark { series: u8, option: u64, futures: u64, tick_value: u64 },
+    Unmark { series: u8 },
     Intraday,
     Evening,
 }
@@ -144,6 +145,7 @@ impl Book {
             Event::Mark { series, option, futures, tick_value } => {
                 self.mark(series, option, futures, tick_value).map(|()| Done::Entered)
             }
+            Event::Unmark { series } => self.unmark(series).map(|()| Done::Entered),
             Event::Intraday => self.intraday().map(|session| Done::Settled(Box::new(session))),
             Event::Evening => self.evening().map(|session| Done::Settled(Box::new(session))),
         }
@@ -226,6 +228,11 @@ impl Book {
         let coefficient = coefficient(tick_value, series.tick);
         refuse_if(!TICK_VALUE.contains(&coefficient), Refusal::TickValue)?;
         series.mark = Some(Mark { option, futures, coefficient });
+        Ok(())
+    }
+
+    fn unmark(&mut self, number: u8) -> Result<(), Refusal> {
+        self.live_series(number)?.mark = None;
         Ok(())
     }
 

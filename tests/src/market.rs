@@ -270,9 +270,13 @@ impl Market {
                 0..=74 => self.trade(),
                 75..=86 => self.exercise(),
                 87..=91 => self.decline(),
-                92..=97 => {
+                92..=96 => {
                     let series = self.some_series();
                     self.mark(series);
+                }
+                97 => {
+                    let series = self.some_series();
+                    self.row("U", &[series]);
                 }
                 98 => self.row("I", &[]),
                 _ => self.row("V", &[]),
@@ -396,6 +400,9 @@ impl Market {
             self.mark(number);
             if self.random.one_in(12) {
                 self.mark(number);
+            }
+            if self.random.one_in(30) {
+                self.row("U", &[number]);
             }
             if self.random.one_in(30) {
                 self.row(letter, &[]);

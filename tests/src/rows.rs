@@ -83,6 +83,7 @@ pub fn read(row: &[u8]) -> Result<Event, Refusal> {
     match row {
         [b'T', b',', rest @ ..] => trade(rest).ok_or(Refusal::Row),
         [b'M', b',', rest @ ..] => mark(rest).ok_or(Refusal::Row),
+        [b'U', b',', rest @ ..] => unmark(rest).ok_or(Refusal::Row),
         [b'X', b',', rest @ ..] => exercise(rest).ok_or(Refusal::Row),
         [b'D', b',', rest @ ..] => decline(rest).ok_or(Refusal::Row),
         [b'L', b',', rest @ ..] => list(rest),
@@ -138,6 +139,11 @@ fn mark(rest: &[u8]) -> Option<Event> {
     })
 }
 
+fn unmark(rest: &[u8]) -> Option<Event> {
+    let [series] = fields(rest)?;
+    Some(Event::Unmark { series: byte(series)? })
+}
+
 /// Exactly N fields between commas.
 fn fields<const N: usize>(row: &[u8]) -> Option<[&[u8]; N]> {
     let mut parts = row.split(|&byte| byte == b',');
@@ -178,7 +184,7 @@ mod tests {
     }
 
     #[test]
-    fn the_seven_kinds() {
+    fn the_eight_kinds() {
         assert_eq!(
             read(b"L,GAZR-3.23M150323PE17000,100,1"),
             Ok(Event::List {
@@ -199,6 +205,7 @@ mod tests {
             read(b"M,0,16000,1702000,100000"),
             Ok(Event::Mark { series: 0, option: 16_000, futures: 1_702_000, tick_value: 100_000 })
         );
+        assert_eq!(read(b"U,300"), Ok(Event::Unmark { series: 255 }));
         assert_eq!(read(b"I"), Ok(Event::Intraday));
         assert_eq!(read(b"V"), Ok(Event::Evening));
     }
@@ -252,6 +259,10 @@ mod tests {
             "D,0,1,2",
             "M,0,1,2",
             "M,0,1,2,3,4",
+            "U",
+            "U,",
+            "U,0,1",
+            "u,0",
             "L,GAZR-3.23M150323CA17000",
             "L,GAZR-3.23M150323CA17000,100",
             "L,GAZR-3.23M150323CA17000,100,1,",

@@ -75,6 +75,11 @@ impl Census {
             Event::Trade { series: 255, .. } => self.count("series held at 255"),
             Event::Trade { buyer: 255, .. } | Event::Trade { seller: 255, .. } => self.count("account held at 255"),
             Event::List { .. } => self.count_if(book.intraday_is_over, "listing after an intraday session"),
+            Event::Unmark { series } => {
+                if let Some(series) = book.series.get(usize::from(series)) {
+                    self.count(if series.mark.is_some() { "mark taken back" } else { "no mark to take back" });
+                }
+            }
             Event::Evening => self.take_evening(book),
             _ => {}
         }
@@ -206,6 +211,8 @@ fn every_refusal_and_every_kind_of_line() {
             "account held at 255",
             "listing after an intraday session",
             "event on day 999",
+            "mark taken back",
+            "no mark to take back",
             "evening without live series",
             "call expires, strike Less futures",
             "call expires, strike Equal futures",

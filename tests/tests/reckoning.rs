@@ -72,6 +72,7 @@ impl Reckoning {
             Event::Mark { series, option, futures, tick_value } => {
                 self.series[usize::from(series)].mark = Some((option, futures, tick_value));
             }
+            Event::Unmark { series } => self.series[usize::from(series)].mark = None,
             Event::Intraday => self.series.iter_mut().for_each(|series| series.mark = None),
             Event::Evening => self.evening(),
         }

@@ -261,6 +261,15 @@ fn session_refusals_in_their_order() {
 }
 
 #[test]
+fn a_mark_taken_back() {
+    let mut book = book(&format!("{CALL} M,0,0,0,100000 U,0"));
+    assert_eq!(apply(&mut book, "I"), Err(Refusal::NoMark(0)));
+    // Whether one stands or not.
+    run(&mut book, "U,0 M,0,0,0,100000 I");
+    assert_eq!(refused(&mut book, "U,1"), 2);
+}
+
+#[test]
 fn sessions_without_live_series() {
     let mut book = Book::new();
     assert_eq!(session(&mut book, "I"), Session { money: [0; ACCOUNTS], futures: vec![] });

@@ -2,7 +2,7 @@
 
 use crate::random::Random;
 
-const ODD_BYTES: &[u8] = b",,\"\"\r\n  00-+.;:\0\t'AaLTXDMIVltxdmivCPE19\x7f\x80\xc3\xff";
+const ODD_BYTES: &[u8] = b",,\"\"\r\n  00-+.;:\0\t'AaLTXDMUIVltxdmuivCPE19\x7f\x80\xc3\xff";
 
 pub fn damage(random: &mut Random, row: &mut Vec<u8>) {
     let place = random.below(row.len() as u64) as usize;

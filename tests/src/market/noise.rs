@@ -3,7 +3,7 @@
 use super::{market, KINDS};
 use crate::random::Random;
 
-const ROW_BYTES: &[u8] = b"LTXDMIV,,,,0123456789.-\r\n\r\n\r\n";
+const ROW_BYTES: &[u8] = b"LTXDMUIV,,,,0123456789.-\r\n\r\n\r\n";
 const ENDS: &[u8] = b"\r\r\n\nIV,";
 
 pub fn bytes(random: &mut Random) -> Vec<u8> {
@@ -29,7 +29,7 @@ fn without_an_end(random: &mut Random) -> Vec<u8> {
 }
 
 fn short_rows(random: &mut Random, count: usize) -> Vec<u8> {
-    let rows: [&[u8]; 12] = [
+    let rows: [&[u8]; 13] = [
         b"I",
         b"V",
         b"",
@@ -38,6 +38,7 @@ fn short_rows(random: &mut Random, count: usize) -> Vec<u8> {
         b"T,0,1,2,3,4",
         b"D,0,1",
         b"X,0,1,1",
+        b"U,0",
         b"T",
         b"I,",
         b"\r",
