@@ -26,6 +26,11 @@ pub struct Date {
 }
 
 impl Date {
+    /// Whether two digits hold each of its numbers.
+    fn has_a_layout(self) -> bool {
+        [self.day, self.month, self.year].iter().all(|&number| number <= 99)
+    }
+
     fn is_in_the_calendar(self) -> bool {
         let days = match self.month {
             1 | 3 | 5 | 7 | 8 | 10 | 12 => 31,
@@ -35,7 +40,7 @@ impl Date {
             2 => 28,
             _ => return false,
         };
-        (1..=days).contains(&self.day) && self.year <= 99
+        (1..=days).contains(&self.day)
     }
 }
 
@@ -52,6 +57,9 @@ pub fn write(terms: &Terms) -> Result<String, Refusal> {
         Some(length) if length == terms.futures_code.len() => String::from_utf8_lossy(terms.futures_code),
         _ => return Err(Refusal::Code),
     };
+    if !terms.date.has_a_layout() {
+        return Err(Refusal::Code);
+    }
     check(terms)?;
     let Date { day, month, year } = terms.date;
     let option = match terms.option {
@@ -308,7 +316,17 @@ mod tests {
         assert_eq!(write(&Terms { futures_code: b"GAZR-3.23M", ..terms }), Err(Refusal::Code));
         assert_eq!(write(&Terms { futures_code: b"", date, ..terms }), Err(Refusal::Code));
         assert_eq!(write(&Terms { date, strike: 0, ..terms }), Err(Refusal::Date));
-        assert_eq!(write(&Terms { date: Date { year: 100, ..terms.date }, ..terms }), Err(Refusal::Date));
+        for date in [
+            Date { day: 100, ..terms.date },
+            Date { month: 100, ..terms.date },
+            Date { year: 100, ..terms.date },
+            Date { year: u64::MAX, ..date },
+        ] {
+            assert_eq!(write(&Terms { date, strike: 0, ..terms }), Err(Refusal::Code));
+        }
+        for date in [Date { day: 99, ..terms.date }, Date { month: 99, ..terms.date }] {
+            assert_eq!(write(&Terms { date, strike: 0, ..terms }), Err(Refusal::Date));
+        }
         assert_eq!(write(&Terms { strike: 0, ..terms }), Err(Refusal::StrikeText));
         assert_eq!(write(&Terms { strike: LARGEST_STRIKE + 1, ..terms }), Err(Refusal::StrikeText));
     }
