@@ -1,4 +1,5 @@
-// Contract codes, as GAZR-3.23M150323CA17000: the reader, the writer, and the futures code that a code begins with.
+// Contract codes, as GAZR-3.23M150323CA17000 and GAZR-3.23M150323CA 17000: the reader, the writer, and the futures code that a
+// code begins with.
 use contract::bounds::MAX_CODE;
 use contract::types::LayoutRead;
 use contract::types::Read;

@@ -1,9 +1,10 @@
-// The whole layout: futures code, M, date, type, category, strike.
+// The whole layout: futures code, M, date, type, category, style, strike.
 use contract::types::Date;
 use contract::types::DateRead;
 use contract::types::KindRead;
 use contract::types::LayoutRead;
 use contract::types::StrikeRead;
+use contract::types::StyleRead;
 use contract::types::Terms;
 use decimal::Scanned;
 ghost use mathlib.Core.Path.{_≡_};
@@ -36,7 +37,8 @@ pub fn fields(s: &[u8]) -> LayoutRead
     else {
         return LayoutRead::NoLayout;
     };
-    let StrikeRead::Strike(strike) = strike::last(s, c) else {
+    let StyleRead { style, next: d } = style::blank(s, c);
+    let StrikeRead::Strike(strike) = strike::last(s, d) else {
         return LayoutRead::NoLayout;
     };
     LayoutRead::Laid {
@@ -45,6 +47,7 @@ pub fn fields(s: &[u8]) -> LayoutRead
             date,
             option,
             category,
+            style,
             strike,
         },
     }
@@ -68,7 +71,9 @@ pub fn put_code(out: &mut [u8], future: &[u8], terms: Terms) -> usize
     let date = terms.date;
     let option = terms.option;
     let category = terms.category;
+    let style = terms.style;
     let b = put_head(out, future, date);
     let c = code_fields::kind::put_letters(out, b, option, category);
-    strike::put_text(out, c, terms.strike)
+    let d = style::put_blank(out, c, style);
+    strike::put_text(out, d, terms.strike)
 }

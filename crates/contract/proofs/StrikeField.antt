@@ -13,7 +13,7 @@ use borrow.Author.Tests.{le-leb, eq-eqb, ne-eqb, leb-true, eqb-true, eqb-false}
 use Rattle.choice.specs.Choice.{choose}
 use Rattle.terms.specs.Bounds.{maxStrike}
 use Rattle.decimal.specs.Text.{digitByte, decimal}
-use Rattle.decimal.specs.Read.{digitOf, numeralAt, capped, onNumeral}
+use Rattle.decimal.specs.Read.{digitOf, numeralOn, numeralAt, capped, onNumeral}
 use Rattle.decimal.specs.Put.{Put}
 use Rattle.decimal.specs.declared.Numeral.{Numeral}
 use Rattle.decimal.specs.declared.Numeral.the-variants.{Value, NoNumeral}
@@ -21,9 +21,11 @@ use Rattle.decimal.proofs.Choices.{held, failed}
 use Rattle.decimal.proofs.Places.{drop-next, here-in, here-byte, here-next, after-text, ends}
 use Rattle.decimal.proofs.Digits.{digit-of, digit-byte, digit-in}
 use Rattle.decimal.proofs.Reading.{capped-value, capped-none, capped-most}
-use Rattle.decimal.proofs.Numerals.{NoDigit, end-no-digit, byte-no-digit, after-numeral, numeral-read, numeral-text, length-some, length-below}
+use Rattle.decimal.proofs.Numerals.{NoDigit, end-no-digit, byte-no-digit, none-value, after-numeral, numeral-read, numeral-text, length-some, length-below}
 use Rattle.decimal.proofs.Putting.{then}
 use Rattle.decimal.specs.Scan.{onScanned, byteAt}
+use Rattle.decimal.specs.declared.Scanned.{Scanned}
+use Rattle.decimal.specs.declared.Scanned.the-variants.{Next, Broken}
 use Rattle.contract.specs.Strike.{hundredthsText, strikeText, fractionAt, hundredthsAt, onHundredths, counted, strikeAt, onStrike}
 use Rattle.contract.specs.declared.types.HundredthsRead.{HundredthsRead}
 use Rattle.contract.specs.declared.types.HundredthsRead.the-variants.{Hundredths, NoHundredths}
@@ -242,6 +244,18 @@ strike-read s at strike e =
       hundredths-read s i (strike % 100) room (omega arith) rest,
       z,
     )
+
+-- no strike begins with a blank, 32
+pub strike-no-blank : (s : List ℕ) (at strike : ℕ) → drop at s ≡ strikeText strike → byteAt s at 32 ≡ Broken
+unfolding numeralOn digitOf choose
+strike-no-blank s at strike e = by-byte (byteAt s at 32) refl
+  where
+    by-byte : (m : Scanned) → byteAt s at 32 ≡ m → m ≡ Broken
+    by-byte Broken p = refl
+    by-byte (Next n) p =
+        let none : numeralAt s at ≡ NoNumeral = ap (numeralOn at) (byte-text s at 32 n p) in
+        let some = numeral-read s at (strike / 100) (hundredthsText (strike % 100)) (hundredths-no-digit (strike % 100)) e in
+        absurd (none-value _ _ (sym none ∙ some))
 
 -- ---- steps of the reader, which reads the units up to the least that no strike has
 module _ (s : List ℕ) (at : ℕ) (r : Numeral) (p : r ≡ capped tooManyUnits (numeralAt s at)) where

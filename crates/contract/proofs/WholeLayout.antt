@@ -5,11 +5,12 @@ use mathlib.Core.List.{List, _∷_, _++_}
 use native.Mathlib.Omega.{arith}
 use lib.ListN.{length, drop, take, take-append-drop}
 use lib.Seq.{drop-at, length-take-le}
-use Rattle.decimal.proofs.Places.{here-next}
+use Rattle.decimal.proofs.Places.{here-next, after-text}
 use Rattle.decimal.specs.Scan.{onScanned, byteAt}
 use Rattle.contract.specs.Future.{futureAt}
 use Rattle.contract.specs.Date.{dateText, dateAt, onDate}
 use Rattle.contract.specs.Kind.{kindText, kindAt, onKind}
+use Rattle.contract.specs.Style.{styleText, styleAt, onStyle}
 use Rattle.contract.specs.Strike.{strikeText, counted, strikeAt, onStrike}
 use Rattle.contract.specs.Code.{codeText, Says, layoutAt, onLayout, verdictOf, onVerdict, readCode, onRead}
 use Rattle.contract.specs.declared.types.Terms.{Terms}
@@ -25,33 +26,38 @@ use Rattle.contract.proofs.Scanning.{after-scanned, byte-read, byte-tex
 use Rattle.contract.proofs.FutureField.{future-read, future-text}
 use Rattle.contract.proofs.DateField.{after-date, date-read, after-date-text, date-text}
 use Rattle.contract.proofs.KindField.{after-kind, kind-read, kind-text}
+use Rattle.contract.proofs.StyleField.{style-read, style-text}
 use Rattle.contract.proofs.StrikeField.{after-strike, strike-read, strike-text}
 
 -- ---- the layout
 
 -- terms as the reader counts them: it tells no strikes apart that are far above the bound
 abbrev pub countedTerms : Terms → Terms
-countedTerms t = record { date = t .date; option = t .option; category = t .category; strike = counted (t .strike) }
+countedTerms t =
+    record { date = t .date; option = t .option; category = t .category; style = t .style; strike = counted (t .strike) }
 
 -- a text that says terms is read as them
 pub layout-read : (s f : List ℕ) (t : Terms) → Says s f t → layoutAt s ≡ Laid (length f) (countedTerms t)
-unfolding layoutAt onScanned onDate onKind onStrike
+unfolding layoutAt onScanned onDate onKind onStyle onStrike
 layout-read s f t c =
     let n = length f in
-    let tail = kindText (t .option) (t .category) ++ strikeText (t .strike) in
+    let last = styleText (t .style) ++ strikeText (t .strike) in
+    let tail = kindText (t .option) (t .category) ++ last in
     let e0 : drop n s ≡ 77 ∷ (dateText (t .date) ++ tail) =
     ap (λ (x : List ℕ). drop n x) (c .text) ∙ drop-at f _ n refl
     in
     let e1 : drop (n + 1) s ≡ dateText (t .date) ++ tail = here-next s n 77 _ e0 in
     let e2 : drop (n + 1 + 2 + 2 + 2) s ≡ tail = after-date-text s (n + 1) (t .date) tail e1 in
     let at = n + 1 + 2 + 2 + 2 in
-    let e3 : drop (at + 1 + 1) s ≡ strikeText (t .strike) = here-next s (at + 1) _ _ (here-next s at _ _ e2) in
+    let e3 : drop (at + 1 + 1) s ≡ last = here-next s (at + 1) _ _ (here-next s at _ _ e2) in
+    let e4 = after-text s (at + 1 + 1) (styleText (t .style)) (strikeText (t .strike)) e3 in
     rw (
       future-read s f _ (c .code) (c .text),
       byte-read s n 77 _ e0,
       date-read s (n + 1) (t .date) tail (c .digits) e1,
-      kind-read s at (t .option) (t .category) (strikeText (t .strike)) e2,
-      strike-read s (at + 1 + 1) (t .strike) e3,
+      kind-read s at (t .option) (t .category) last e2,
+      style-read s (at + 1 + 1) (t .style) (t .strike) e3,
+      strike-read s (at + 1 + 1 + length (styleText (t .style))) (t .strike) e4,
     )
 
 -- what was read is said by the text
@@ -65,19 +71,20 @@ none-laid : (n : ℕ) (x : Terms) → NoLayout ≡ Laid n x → ⊥
 none-laid n x e = let z : _≡_ {A = ℕ} 0 1 = cc in omega arith
 
 pub layout-text : (s : List ℕ) (n : ℕ) (x : Terms) → layoutAt s ≡ Laid n x → Told s n x
-unfolding layoutAt
+unfolding layoutAt onStyle
 layout-text s n x e =
     after-scanned NoLayout (Laid n x) (none-laid n x) (futureAt s) _ e (λ k pk ek.
     after-scanned NoLayout (Laid n x) (none-laid n x) (byteAt s k 77) _ ek (λ a pa ea.
     after-date NoLayout (Laid n x) (none-laid n x) (dateAt s a) _ ea (λ d b pb eb.
     after-kind NoLayout (Laid n x) (none-laid n x) (kindAt s b) _ eb (λ o g c pc ec.
-    after-strike NoLayout (Laid n x) (none-laid n x) (strikeAt s c) _ ec (λ h ph eh.
+    after-strike NoLayout (Laid n x) (none-laid n x) (strikeAt s (styleAt s c .next)) _ ec (λ h ph eh.
+    let w = styleAt s c .style in
     let y : k ≡ n = cc in
-    let z : _≡_ {A = Terms} (record { date = d; option = o; category = g; strike = h }) x = cc in
+    let z : _≡_ {A = Terms} (record { date = d; option = o; category = g; style = w; strike = h }) x = cc in
     let lead = future-text s k pk in
     let dates = date-text s a d b pb in
-    let st = strike-text s c h ph in
-    let t : Terms = record { date = d; option = o; category = g; strike = st .strike } in
+    let st = strike-text s (styleAt s c .next) h ph in
+    let t : Terms = record { date = d; option = o; category = g; style = w; strike = st .strike } in
     let whole : s ≡ codeText (take k s) t =
     sym (take-append-drop k s)
     ∙ ap (λ (l : List ℕ). take k s ++ l)
@@ -85,7 +92,8 @@ layout-text s n x e =
     ∙ ap (λ (l : List ℕ). 77 ∷ l)
     (dates .1
     ∙ ap (λ (l : List ℕ). dateText d ++ l)
-    (kind-text s b o g c pc ∙ ap (λ (l : List ℕ). kindText o g ++ l) (st .text))))
+    (kind-text s b o g c pc
+    ∙ ap (λ (l : List ℕ). kindText o g ++ l) (style-text s c ∙ ap (λ (l : List ℕ). styleText w ++ l) (st .text)))))
     in
     subst (λ (i : ℕ). Told s i x) y
     (record {
@@ -96,7 +104,7 @@ layout-text s n x e =
             digits = dates .0;
             text = whole;
           };
-      count = sym z ∙ ap (λ (i : ℕ). record { date = d; option = o; category = g; strike = i }) (st .count);
+      count = sym z ∙ ap (λ (i : ℕ). record { date = d; option = o; category = g; style = w; strike = i }) (st .count);
       within = lead .within;
     }))))))
 

@@ -20,6 +20,10 @@ dateLength = 2 + 2 + 2
 abbrev pub kindLength : ℕ
 kindLength = 1 + 1
 
+-- one blank, in the style that has it
+abbrev pub maxStyleText : ℕ
+maxStyleText = 1
+
 -- the least number of units that no strike has; a strike with hundredths has one digit less, a point and two digits
 abbrev pub tooManyUnits : ℕ
 tooManyUnits = maxStrike / 100 + 1
@@ -27,6 +31,6 @@ tooManyUnits = maxStrike / 100 + 1
 abbrev pub maxStrikeText : ℕ
 maxStrikeText = 5 + 1 + 2
 
--- the futures code, M, the date, type and category, and the strike
+-- the futures code, M, the date, type and category, the blank, and the strike
 abbrev pub maxCode : ℕ
-maxCode = maxFuture + 1 + dateLength + kindLength + maxStrikeText
+maxCode = maxFuture + 1 + dateLength + kindLength + maxStyleText + maxStrikeText

@@ -1,4 +1,4 @@
--- Contract codes (RULES, "Contract codes"): futures code, M, DDMMYY, C or P, A or E, strike.
+-- Contract codes (RULES, "Contract codes"): futures code, M, DDMMYY, C or P, A or E, one blank or none, strike.
 use Prim.Native.Nat.{ℕ, _-_}
 use mathlib.Core.Path.{_≡_}
 use mathlib.Core.List.{List, [], _∷_, _++_}
@@ -12,6 +12,7 @@ use Rattle.contract.specs.Bounds.{maxCode}
 use Rattle.contract.specs.Future.{FutureCode, futureAt}
 use Rattle.contract.specs.Date.{TwoDigitsEach, dateVerdict, dateText, dateAt, onDate}
 use Rattle.contract.specs.Kind.{kindText, kindAt, onKind}
+use Rattle.contract.specs.Style.{styleText, styleAt, onStyle}
 use Rattle.contract.specs.Strike.{strikeText, strikeAt, onStrike, strikeVerdict}
 use Rattle.contract.specs.declared.types.Terms.{Terms}
 use Rattle.contract.specs.declared.types.Refusal.{Refusal}
@@ -33,7 +34,10 @@ number StrikeText = no.strikeText
 -- the text of a futures code and the other terms; M is 77
 abbrev pub codeText : List ℕ → Terms → List ℕ
 codeText future terms =
-    future ++ (77 ∷ (dateText (terms .date) ++ (kindText (terms .option) (terms .category) ++ strikeText (terms .strike))))
+    future
+    ++ (77
+    ∷ (dateText (terms .date)
+    ++ (kindText (terms .option) (terms .category) ++ (styleText (terms .style) ++ strikeText (terms .strike)))))
 
 -- the bytes have a code's layout and say these terms, whether or not there is such a date and such a strike
 pub record Says (bytes future : List ℕ) (terms : Terms) : Type 0 where
@@ -49,8 +53,9 @@ layoutAt s =
     onScanned (byteAt s n 77) NoLayout (λ a.
     onDate (dateAt s a) NoLayout (λ date b.
     onKind (kindAt s b) NoLayout (λ option category c.
-    onStrike (strikeAt s c) NoLayout (λ strike.
-    Laid n (record { date = date; option = option; category = category; strike = strike }))))))
+    onStyle (styleAt s c) (λ style d.
+    onStrike (strikeAt s d) NoLayout (λ strike.
+    Laid n (record { date = date; option = option; category = category; style = style; strike = strike })))))))
 
 unfoldable pub onLayout : {A : Type 0} → LayoutRead → A → (ℕ → Terms → A) → A
 onLayout (Laid n t) none next = next n t

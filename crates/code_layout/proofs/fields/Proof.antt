@@ -16,7 +16,7 @@ enum-told c = search needs
 
 returns : tie.Need-returns
 unfolding layoutAt
-returns c = search fields depth 12
+returns c = search fields depth 14
 
 expect-requires : tie.Need-expect-requires
 expect-requires c κs = search needs
@@ -29,7 +29,7 @@ enum-told-2 c = search needs
 
 returns-2 : tie.Need-returns-2
 unfolding layoutAt
-returns-2 c = search fields depth 12
+returns-2 c = search fields depth 14
 
 digits-requires : tie.Need-digits-requires
 digits-requires c κs = search needs
@@ -42,7 +42,7 @@ enum-told-3 c = search needs
 
 returns-3 : tie.Need-returns-3
 unfolding layoutAt
-returns-3 c = search fields depth 12
+returns-3 c = search fields depth 14
 
 letters-requires : tie.Need-letters-requires
 letters-requires c κs = search needs
@@ -55,7 +55,10 @@ enum-told-4 c = search needs
 
 returns-4 : tie.Need-returns-4
 unfolding layoutAt
-returns-4 c = search fields depth 12
+returns-4 c = search fields depth 14
+
+blank-requires : tie.Need-blank-requires
+blank-requires c κs = search needs
 
 last-requires : tie.Need-last-requires
 last-requires c κs = search needs
@@ -68,11 +71,11 @@ enum-told-5 c = search needs
 
 returns-5 : tie.Need-returns-5
 unfolding layoutAt
-returns-5 c = search fields depth 12
+returns-5 c = search fields depth 14
 
 returns-6 : tie.Need-returns-6
 unfolding layoutAt
-returns-6 c = search fields depth 12
+returns-6 c = search (fields, c .before .before .before .before .before .before .before .before .before .before .before .before .before .before .before .before .before .before .before .before .leading .ensures) depth 14
 
 pub fields-spec : {M : Type 1} → statement M
 fields-spec =
@@ -94,6 +97,7 @@ fields-spec =
     enum-known-option
     enum-told-4
     returns-4
+    blank-requires
     last-requires
     enum-known-strike
     enum-told-5
