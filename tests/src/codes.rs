@@ -13,8 +13,17 @@ pub struct Terms<'a> {
     pub date: Date,
     pub option: OptionType,
     pub category: Category,
+    pub style: Style,
     /// In hundredths.
     pub strike: u64,
+}
+
+/// What stands between the category letter and the strike: one blank, as in lists of share options, or nothing, as in
+/// those of oil.
+#[derive(Clone, Copy, Debug, PartialEq, Eq)]
+pub enum Style {
+    Blank,
+    NoBlank,
 }
 
 #[derive(Clone, Copy, Debug, PartialEq, Eq)]
@@ -70,8 +79,12 @@ pub fn write(terms: &Terms) -> Result<String, Refusal> {
         Category::American => 'A',
         Category::European => 'E',
     };
+    let blank = match terms.style {
+        Style::Blank => " ",
+        Style::NoBlank => "",
+    };
     let strike = strike_text(terms.strike);
-    Ok(format!("{futures_code}M{day:02}{month:02}{year:02}{option}{category}{strike}"))
+    Ok(format!("{futures_code}M{day:02}{month:02}{year:02}{option}{category}{blank}{strike}"))
 }
 
 fn check(terms: &Terms) -> Result<(), Refusal> {
@@ -87,7 +100,7 @@ fn check(terms: &Terms) -> Result<(), Refusal> {
 /// Takes a code apart; `None` where its layout is broken. A strike past every bound is held at the largest number.
 fn layout(code: &[u8]) -> Option<Terms<'_>> {
     let (futures_code, rest) = code.split_at(futures_code_length(code)?);
-    let [b'M', d1, d2, m1, m2, y1, y2, option, category, strike @ ..] = rest else {
+    let [b'M', d1, d2, m1, m2, y1, y2, option, category, rest @ ..] = rest else {
         return None;
     };
     let date = Date { day: two_digits(*d1, *d2)?, month: two_digits(*m1, *m2)?, year: two_digits(*y1, *y2)? };
@@ -101,7 +114,11 @@ fn layout(code: &[u8]) -> Option<Terms<'_>> {
         b'E' => Category::European,
         _ => return None,
     };
-    Some(Terms { futures_code, date, option, category, strike: strike_hundredths(strike)? })
+    let (style, strike) = match rest {
+        [b' ', strike @ ..] => (Style::Blank, strike),
+        strike => (Style::NoBlank, strike),
+    };
+    Some(Terms { futures_code, date, option, category, style, strike: strike_hundredths(strike)? })
 }
 
 /// The length of the futures code that `code` starts with: 1 to 8 capitals, a hyphen, a month, a point, a year.
@@ -163,12 +180,12 @@ fn strike_text(strike: u64) -> String {
 mod tests {
     use super::*;
 
-    fn refusal(code: &str) -> u64 {
-        read(code.as_bytes()).expect_err(code).number()
-    }
+    /// What may stand before a strike.
+    const BLANKS: [&str; 2] = ["", " "];
 
-    fn strike(text: &str) -> u64 {
-        read(format!("GAZR-3.23M150323CA{text}").as_bytes()).expect(text).strike
+    fn refusal(code: impl AsRef<[u8]>) -> u64 {
+        let code = code.as_ref();
+        read(code).expect_err(&String::from_utf8_lossy(code)).number()
     }
 
     #[test]
@@ -179,29 +196,51 @@ mod tests {
         assert_eq!(terms.date, Date { day: 15, month: 3, year: 23 });
         assert_eq!(terms.option, OptionType::Call);
         assert_eq!(terms.category, Category::American);
+        assert_eq!(terms.style, Style::NoBlank);
         assert_eq!(terms.strike, 1_700_000);
         // The futures code is that part of the caller's bytes.
         assert!(std::ptr::eq(terms.futures_code.as_ptr(), code.as_ptr()));
     }
 
     #[test]
+    fn codes_that_differ_only_in_the_blank_differ_in_style_alone() {
+        for (kind, strike) in [("CA", "17000"), ("PA", "0.01"), ("CE", "72.5"), ("PE", "100000")] {
+            let codes = BLANKS.map(|blank| format!("GAZR-3.23M150323{kind}{blank}{strike}"));
+            let [without, with] = codes.each_ref().map(|code| read(code.as_bytes()).unwrap());
+            assert_ne!(without, with);
+            assert_eq!(without.style, Style::NoBlank);
+            assert_eq!(with, Terms { style: Style::Blank, ..without });
+            assert_eq!([without, with].map(|terms| write(&terms).unwrap()), codes);
+        }
+    }
+
+    #[test]
     fn strikes_that_are_read() {
-        assert_eq!(strike("0.01"), 1);
-        assert_eq!(strike("0.5"), 50);
-        assert_eq!(strike("1"), 100);
-        assert_eq!(strike("12.05"), 1_205);
-        assert_eq!(strike("12.5"), 1_250);
-        assert_eq!(strike("99999.99"), 9_999_999);
-        assert_eq!(strike("100000"), 10_000_000);
+        for (text, strike) in [
+            ("0.01", 1),
+            ("0.5", 50),
+            ("1", 100),
+            ("12.05", 1_205),
+            ("12.5", 1_250),
+            ("99999.99", 9_999_999),
+            ("100000", 10_000_000),
+        ] {
+            for blank in BLANKS {
+                let code = format!("GAZR-3.23M150323CA{blank}{text}");
+                assert_eq!(read(code.as_bytes()).expect(&code).strike, strike);
+            }
+        }
     }
 
     #[test]
     fn strikes_whose_layout_is_broken() {
         for text in [
             "", ".", ".5", "1.", "00", "01", "00.5", "1.0", "1.00", "1.50", "0.0", "1.234", "1.001", "1..5", "1.5.5",
-            "-1", "+1", " 1", "1 ", "1,5", "1e3", "1.a", "1.a5", "1.5a",
+            "-1", "+1", "1 ", "1 000", "1. 5", "1 .5", "1,5", "1e3", "1.a", "1.a5", "1.5a",
         ] {
-            assert_eq!(refusal(&format!("GAZR-3.23M150323CA{text}")), 17, "{text:?}");
+            for blank in BLANKS {
+                assert_eq!(refusal(format!("GAZR-3.23M150323CA{blank}{text}")), 17, "{blank:?} {text:?}");
+            }
         }
     }
 
@@ -210,7 +249,49 @@ mod tests {
         let long = "9".repeat(200);
         let wrapping = format!("{}{}", "18446744073709551617", "00");
         for text in ["0", "100000.01", "100000.1", "100001", "1000000", &long, &wrapping] {
-            assert_eq!(refusal(&format!("GAZR-3.23M150323CA{text}")), 19, "{text:?}");
+            for blank in BLANKS {
+                assert_eq!(refusal(format!("GAZR-3.23M150323CA{blank}{text}")), 19, "{blank:?} {text:?}");
+            }
+        }
+    }
+
+    #[test]
+    fn more_than_one_blank() {
+        for count in 2..10 {
+            let blanks = " ".repeat(count);
+            assert_eq!(refusal(format!("GAZR-3.23M150323CA{blanks}17000")), 17);
+            assert_eq!(refusal(format!("GAZR-3.23M150323CA{blanks}")), 17);
+        }
+    }
+
+    #[test]
+    fn a_blank_anywhere_else() {
+        let (front, strike) = ("GAZR-12.23M150323CA", "17000.05");
+        let code = format!("{front}{strike}");
+        for place in (0..=code.len()).filter(|&place| place != front.len()) {
+            let (before, behind) = code.split_at(place);
+            assert_eq!(refusal(format!("{before} {behind}")), 17, "{place}");
+        }
+        // Beside the blank before the strike there is room for no other.
+        let code = format!("{front} {strike}");
+        for place in 0..=code.len() {
+            let (before, behind) = code.split_at(place);
+            assert_eq!(refusal(format!("{before} {behind}")), 17, "{place}");
+        }
+    }
+
+    #[test]
+    fn bytes_in_the_place_of_the_blank() {
+        for byte in 0..=255 {
+            let code = [b"GAZR-3.23M150323CA", &[byte][..], b"700"].concat();
+            match byte {
+                b' ' => assert_eq!(read(&code).unwrap().style, Style::Blank),
+                b'1'..=b'9' => assert_eq!(read(&code).unwrap().style, Style::NoBlank),
+                _ => assert_eq!(refusal(code), 17, "{byte}"),
+            }
+        }
+        for blank in ["\u{a0}", "\u{2003}", "\u{2009}", "\u{202f}", "\u{3000}", "\t ", " \t", "\r\n", " \u{a0}"] {
+            assert_eq!(refusal(format!("GAZR-3.23M150323CA{blank}17000")), 17, "{blank:?}");
         }
     }
 
@@ -245,7 +326,6 @@ mod tests {
             "GAZR-3.23M150323XA1",
             "GAZR-3.23M150323CX1",
             "GAZR-3.23M150323AC1",
-            "GAZR-3.23M150323CA 1",
             "GAZR-3.23M150323CA",
             "GAZR-3.23M150323C",
             " GAZR-3.23M150323CA1",
@@ -259,10 +339,15 @@ mod tests {
 
     #[test]
     fn shortest_and_longest_codes() {
-        assert!(read(b"A-1.00M010100PE1").is_ok());
-        let longest = b"ABCDEFGH-12.99M311299PE99999.99";
-        assert_eq!(longest.len(), 31);
-        assert!(read(longest).is_ok());
+        for (code, length) in [
+            ("A-1.00M010100PE1", 16),
+            ("A-1.00M010100PE 1", 17),
+            ("ABCDEFGH-12.99M311299PE99999.99", 31),
+            ("ABCDEFGH-12.99M311299PE 99999.99", 32),
+        ] {
+            assert_eq!(code.len(), length);
+            assert_eq!(write(&read(code.as_bytes()).unwrap()).unwrap(), code);
+        }
     }
 
     #[test]
@@ -282,52 +367,65 @@ mod tests {
 
     #[test]
     fn layout_comes_before_date_and_date_before_strike() {
-        assert_eq!(refusal("GAZR-3.23M990323CA01"), 17);
-        assert_eq!(refusal("GAZR-3.23M990323CA0"), 18);
-        assert_eq!(refusal("GAZR-3.23M150323CA0"), 19);
+        for blank in BLANKS {
+            assert_eq!(refusal(format!("GAZR-3.23M990323CA{blank}01")), 17);
+            assert_eq!(refusal(format!("GAZR-3.23M990323CA{blank}0")), 18);
+            assert_eq!(refusal(format!("GAZR-3.23M150323CA{blank}0")), 19);
+        }
+        assert_eq!(refusal("GAZR-3.23M990323CA  0"), 17);
+        assert_eq!(refusal("GAZR-3.23M990323CA "), 17);
     }
 
     #[test]
     fn a_code_and_its_terms_determine_each_other() {
-        for code in [
-            "GAZR-3.23M150323CA17000",
-            "A-1.00M290200PE0.01",
-            "ABCDEFGH-12.99M311299PE99999.99",
-            "CL-10.24M010124CE70.5",
+        for (front, strike) in [
+            ("GAZR-3.23M150323CA", "17000"),
+            ("A-1.00M290200PE", "0.01"),
+            ("ABCDEFGH-12.99M311299PE", "99999.99"),
+            ("CL-10.24M010124CE", "70.5"),
+            ("SBRF-6.23M070623PA", "100000"),
         ] {
-            assert_eq!(write(&read(code.as_bytes()).unwrap()).unwrap(), code);
+            for blank in BLANKS {
+                let code = format!("{front}{blank}{strike}");
+                assert_eq!(write(&read(code.as_bytes()).unwrap()).unwrap(), code);
+            }
         }
         for strike in (1..=LARGEST_STRIKE).step_by(997).chain([1, 9, 10, 99, 100, 101, 110, LARGEST_STRIKE]) {
-            let terms = Terms {
-                futures_code: b"SBRF-6.23",
-                date: Date { day: 7, month: 6, year: 23 },
-                option: OptionType::Put,
-                category: Category::European,
-                strike,
-            };
-            assert_eq!(read(write(&terms).unwrap().as_bytes()), Ok(terms));
+            for style in [Style::Blank, Style::NoBlank] {
+                let terms = Terms {
+                    futures_code: b"SBRF-6.23",
+                    date: Date { day: 7, month: 6, year: 23 },
+                    option: OptionType::Put,
+                    category: Category::European,
+                    style,
+                    strike,
+                };
+                assert_eq!(read(write(&terms).unwrap().as_bytes()), Ok(terms));
+            }
         }
     }
 
     #[test]
     fn terms_that_no_code_has() {
-        let terms = read(b"GAZR-3.23M150323CA17000").unwrap();
-        let date = Date { day: 29, month: 2, year: 23 };
-        assert_eq!(write(&Terms { futures_code: b"GAZR-3.23M", ..terms }), Err(Refusal::Code));
-        assert_eq!(write(&Terms { futures_code: b"", date, ..terms }), Err(Refusal::Code));
-        assert_eq!(write(&Terms { date, strike: 0, ..terms }), Err(Refusal::Date));
-        for date in [
-            Date { day: 100, ..terms.date },
-            Date { month: 100, ..terms.date },
-            Date { year: 100, ..terms.date },
-            Date { year: u64::MAX, ..date },
-        ] {
-            assert_eq!(write(&Terms { date, strike: 0, ..terms }), Err(Refusal::Code));
-        }
-        for date in [Date { day: 99, ..terms.date }, Date { month: 99, ..terms.date }] {
+        for style in [Style::Blank, Style::NoBlank] {
+            let terms = Terms { style, ..read(b"GAZR-3.23M150323CA17000").unwrap() };
+            let date = Date { day: 29, month: 2, year: 23 };
+            assert_eq!(write(&Terms { futures_code: b"GAZR-3.23M", ..terms }), Err(Refusal::Code));
+            assert_eq!(write(&Terms { futures_code: b"", date, ..terms }), Err(Refusal::Code));
             assert_eq!(write(&Terms { date, strike: 0, ..terms }), Err(Refusal::Date));
+            for date in [
+                Date { day: 100, ..terms.date },
+                Date { month: 100, ..terms.date },
+                Date { year: 100, ..terms.date },
+                Date { year: u64::MAX, ..date },
+            ] {
+                assert_eq!(write(&Terms { date, strike: 0, ..terms }), Err(Refusal::Code));
+            }
+            for date in [Date { day: 99, ..terms.date }, Date { month: 99, ..terms.date }] {
+                assert_eq!(write(&Terms { date, strike: 0, ..terms }), Err(Refusal::Date));
+            }
+            assert_eq!(write(&Terms { strike: 0, ..terms }), Err(Refusal::StrikeText));
+            assert_eq!(write(&Terms { strike: LARGEST_STRIKE + 1, ..terms }), Err(Refusal::StrikeText));
         }
-        assert_eq!(write(&Terms { strike: 0, ..terms }), Err(Refusal::StrikeText));
-        assert_eq!(write(&Terms { strike: LARGEST_STRIKE + 1, ..terms }), Err(Refusal::StrikeText));
     }
 }

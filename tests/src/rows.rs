@@ -279,6 +279,31 @@ mod tests {
     }
 
     #[test]
+    fn a_blank_before_the_strike_and_none_elsewhere() {
+        let without = read(b"L,GAZR-3.23M150323CA17000,100,1");
+        assert!(without.is_ok());
+        assert_eq!(read(b"L,GAZR-3.23M150323CA 17000,100,1"), without);
+        for (row, number) in [
+            ("L,GAZR-3.23M150323CA  17000,100,1", 17),
+            ("L, GAZR-3.23M150323CA 17000,100,1", 17),
+            ("L,GAZR-3.23M150323CA 17000 ,100,1", 17),
+            ("L,GAZR-3.23M150323CA ,100,1", 17),
+            ("L,GAZR-3.23M150323CA\t17000,100,1", 17),
+            ("L,GAZR-3.23M310223CA 0,100,1", 18),
+            ("L,GAZR-3.23M150323CA 0,100,1", 19),
+            (" L,GAZR-3.23M150323CA 17000,100,1", 20),
+            ("L ,GAZR-3.23M150323CA 17000,100,1", 20),
+            ("L,GAZR-3.23M150323CA 17000, 100,1", 20),
+            ("L,GAZR-3.23M150323CA 17000,100 ,1", 20),
+            ("L,GAZR-3.23M150323CA 17000,100,1 ", 20),
+            ("L,GAZR-3.23M150323CA 17,000,100,1", 20),
+            ("L,GAZR-3.23M150323CA  17000,0100,1", 20),
+        ] {
+            assert_eq!(refusal(row.as_bytes()), number, "{row:?}");
+        }
+    }
+
+    #[test]
     fn eighteen_digits_and_no_more() {
         let exercise = |digits: &str| read(format!("X,0,0,{digits}").as_bytes());
         assert_eq!(
@@ -298,14 +323,16 @@ mod tests {
 
     #[test]
     fn at_most_256_bytes() {
-        let list = |length: usize| {
-            let (front, back) = ("L,GAZR-3.23M150323CA", ",100,1");
+        let list = |front: &str, length: usize| {
+            let back = ",100,1";
             let row = format!("{front}{}{back}", "9".repeat(length - front.len() - back.len()));
             assert_eq!(row.len(), length);
             refusal(row.as_bytes())
         };
-        assert_eq!(list(256), 19);
-        assert_eq!(list(257), 20);
+        for front in ["L,GAZR-3.23M150323CA", "L,GAZR-3.23M150323CA "] {
+            assert_eq!(list(front, 256), 19);
+            assert_eq!(list(front, 257), 20);
+        }
     }
 
     /// Hands out pieces of the given size.

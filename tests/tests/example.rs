@@ -49,6 +49,13 @@ fn the_worked_example() {
 }
 
 #[test]
+fn a_blank_before_the_strike_changes_no_answer() {
+    let input = INPUT.replace("CA17000", "CA 17000");
+    assert_ne!(input, INPUT);
+    assert_eq!(answers(&crlf(&input)), crlf(OUTPUT));
+}
+
+#[test]
 fn the_last_row_may_lack_its_crlf() {
     let input = crlf(INPUT);
     assert_eq!(answers(input.trim_end()), crlf(OUTPUT));

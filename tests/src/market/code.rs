@@ -1,7 +1,7 @@
 //! Contract codes, sound and broken.
 
 use crate::book::{Category, OptionType};
-use crate::codes::{self, Date, Terms};
+use crate::codes::{self, Date, Style, Terms};
 use crate::random::Random;
 
 /// Mostly a sound code.
@@ -20,6 +20,7 @@ fn sound(random: &mut Random) -> String {
         date: date(random),
         option: random.pick(&[OptionType::Call, OptionType::Put]),
         category: random.pick(&[Category::American, Category::American, Category::European]),
+        style: random.pick(&[Style::Blank, Style::NoBlank]),
         strike: strike(random),
     };
     codes::write(&terms).expect("these terms have a code")
