@@ -480,13 +480,13 @@ impl Market {
     fn row(&mut self, letter: &str, fields: &[u64]) {
         let mut fields = fields.to_vec();
         self.make_wrong(&mut fields);
-        self.push_or_damage(text(letter, &fields));
+        self.push_or_damage(text(letter, &fields).into_bytes());
     }
 
-    fn row_with_code(&mut self, code: &str, fields: &[u64]) {
+    fn row_with_code(&mut self, code: &[u8], fields: &[u64]) {
         let mut fields = fields.to_vec();
         self.make_wrong(&mut fields);
-        self.push_or_damage(text(&format!("L,{code}"), &fields));
+        self.push_or_damage([b"L,", code, text("", &fields).as_bytes()].concat());
     }
 
     fn make_wrong(&mut self, fields: &mut [u64]) {
@@ -504,8 +504,7 @@ impl Market {
         }
     }
 
-    fn push_or_damage(&mut self, row: String) {
-        let mut row = row.into_bytes();
+    fn push_or_damage(&mut self, mut row: Vec<u8>) {
         if self.random.permille(self.style.damaged) {
             damage::damage(&mut self.random, &mut row);
         }

@@ -3,6 +3,7 @@
 use std::collections::BTreeMap;
 
 use second::book::{Book, Category, Done, Event, OptionType, LAST_DAY, POSITION_LIMIT};
+use second::codes::{self, Style, Terms};
 use second::market::market;
 use second::refusal::Refusal;
 use second::rows::{self, Rows};
@@ -27,6 +28,23 @@ impl Census {
         }
     }
 
+    fn print(&self) {
+        for (what, count) in &self.counts {
+            println!("{count:9} {what}");
+        }
+    }
+
+    fn demand(&self, wanted: &[String]) {
+        for what in wanted {
+            assert!(self.counts.get(what).is_some_and(|&count| count >= 5), "too few: {what}");
+        }
+    }
+
+    fn demand_both_styles(&self) {
+        let [with, without] = ["code with the blank", "code without the blank"].map(|what| self.counts[what]);
+        assert!(with.abs_diff(without) < (with + without) / 10, "both styles are about equally frequent");
+    }
+
     fn take(&mut self, input: &[u8]) {
         self.count_if(input.is_empty(), "empty input");
         self.count_if(!input.ends_with(b"\r\n"), "last CRLF missing");
@@ -44,6 +62,11 @@ impl Census {
             }
             let answer = event.and_then(|event| book.apply(event));
             self.take_answer(&book, event.ok(), &answer);
+            if let Some(code) = code_of(row) {
+                self.take_code(code);
+                let is_listed = matches!(answer, Ok(Done::Listed(_)));
+                self.count_if(is_listed, &format!("listing {} is carried out", with_or_without_the_blank(code)));
+            }
         }
     }
 
@@ -67,6 +90,56 @@ impl Census {
             row.split(|&byte| byte == b',').any(|field| field.len() > 1 && field[0] == b'0' && digits(field)),
             "leading zero",
         );
+    }
+
+    /// The style of a sound code, and how a blank and a refusal come together in others.
+    fn take_code(&mut self, code: &[u8]) {
+        let style = with_or_without_the_blank(code);
+        match codes::read(code) {
+            Ok(_) => {
+                self.count(format!("code {style}"));
+                for length in [31, 32] {
+                    self.count_if(code.len() == length, &format!("code of {length} bytes {style}"));
+                }
+            }
+            Err(refusal) => {
+                let is_of_its_style = has_its_blank(code) || !code.contains(&b' ');
+                self.count_if(is_of_its_style, &format!("refusal {} of a code {style}", refusal.number()));
+                self.take_odd_blanks(code);
+            }
+        }
+    }
+
+    /// Codes that would be sound but for a blank, or for what stands in its place.
+    fn take_odd_blanks(&mut self, code: &[u8]) {
+        let is_sound = |parts: &[&[u8]]| codes::read(&parts.concat()).is_ok();
+        for place in 0..code.len() {
+            let (before, behind) = code.split_at(place);
+            if let [b' ', others @ ..] = behind {
+                self.take_blank_too_many(&[before, others].concat(), place);
+            }
+            if let [b' ', b'0', others @ ..] = behind {
+                self.count_if(is_sound(&[before, b" ", others]), "leading zero behind the blank");
+            }
+            for white in OTHER_WHITE {
+                if let Some(others) = behind.strip_prefix(white) {
+                    self.count_if(is_sound(&[before, b" ", others]), &in_the_place_of_the_blank(white));
+                }
+            }
+        }
+        self.count_if(code.ends_with(b" ") && is_sound(&[code, b"1"]), "blank with no strike behind it");
+    }
+
+    /// Where the blank stood that has been taken out of a code.
+    fn take_blank_too_many(&mut self, code: &[u8], place: usize) {
+        let Ok(terms) = codes::read(code) else { return };
+        let blank = terms.futures_code.len() + CATEGORY + 1;
+        match terms.style {
+            Style::Blank if place == blank => self.count("two blanks before the strike"),
+            // The second of the two, and they are counted.
+            Style::Blank if place == blank + 1 => {}
+            _ => self.count(format!("blank {}", elsewhere(code, &terms, place))),
+        }
     }
 
     /// What an event finds in the book.
@@ -167,6 +240,101 @@ impl Census {
     }
 }
 
+/// White bytes that are no blank, and the no-break space of UTF-8.
+const OTHER_WHITE: [&[u8]; 7] = [b"\t", b"\n", b"\x0b", b"\x0c", b"\r", b"\xa0", b"\xc2\xa0"];
+
+fn in_the_place_of_the_blank(white: &[u8]) -> String {
+    format!("{} in the place of the blank", white.escape_ascii())
+}
+
+/// The code of a listing whose other fields are sound.
+fn code_of(row: &[u8]) -> Option<&[u8]> {
+    let code = row.strip_prefix(b"L,")?.split(|&byte| byte == b',').next()?;
+    (rows::read(row) != Err(Refusal::Row)).then_some(code)
+}
+
+fn with_or_without_the_blank(code: &[u8]) -> &'static str {
+    if code.contains(&b' ') {
+        "with the blank"
+    } else {
+        "without the blank"
+    }
+}
+
+/// One blank and no other, between a category letter and a digit.
+fn has_its_blank(code: &[u8]) -> bool {
+    code.iter().filter(|&&byte| byte == b' ').count() == 1
+        && code.windows(3).any(|bytes| matches!(bytes, [b'A' | b'E', b' ', b'0'..=b'9']))
+}
+
+// How far behind the futures code the date and the letters of type and category stand.
+const DATE: usize = 1;
+const TYPE: usize = 7;
+const CATEGORY: usize = 8;
+
+/// The joints of a code, the one before the strike apart.
+const JOINTS: [&str; 10] = [
+    "before the code",
+    "before the hyphen",
+    "before the futures month",
+    "before the point",
+    "before the futures year",
+    "before the M",
+    "before the date",
+    "before the type",
+    "before the category",
+    "behind the strike",
+];
+
+/// What a blank at a place of a sound code, but not before its strike, stands before, behind or inside of.
+fn elsewhere(code: &[u8], terms: &Terms, place: usize) -> &'static str {
+    let futures = terms.futures_code.len();
+    let hyphen = code.iter().position(|&byte| byte == b'-').expect("it is sound");
+    let places = [
+        0,
+        hyphen,
+        hyphen + 1,
+        futures - 3,
+        futures - 2,
+        futures,
+        futures + DATE,
+        futures + TYPE,
+        futures + CATEGORY,
+        code.len(),
+    ];
+    match places.iter().position(|&joint| joint == place) {
+        Some(joint) => JOINTS[joint],
+        None if place > futures + CATEGORY => "inside the strike",
+        None => "inside another part",
+    }
+}
+
+fn wanted_of_codes() -> Vec<String> {
+    let mut wanted = [
+        "code with the blank",
+        "code without the blank",
+        "code of 31 bytes with the blank",
+        "code of 31 bytes without the blank",
+        "code of 32 bytes with the blank",
+        "refusal 17 of a code with the blank",
+        "refusal 18 of a code with the blank",
+        "refusal 19 of a code with the blank",
+        "refusal 17 of a code without the blank",
+        "refusal 18 of a code without the blank",
+        "refusal 19 of a code without the blank",
+        "two blanks before the strike",
+        "blank inside the strike",
+        "blank inside another part",
+        "blank with no strike behind it",
+        "leading zero behind the blank",
+    ]
+    .map(String::from)
+    .to_vec();
+    wanted.extend(JOINTS.map(|joint| format!("blank {joint}")));
+    wanted.extend(OTHER_WHITE.map(in_the_place_of_the_blank));
+    wanted
+}
+
 #[test]
 fn every_refusal_and_every_kind_of_line() {
     let mut census = Census::default();
@@ -226,17 +394,17 @@ fn every_refusal_and_every_kind_of_line() {
             "position at the limit",
             "short position at the limit",
             "full blotter",
+            "listing with the blank is carried out",
+            "listing without the blank is carried out",
         ]
         .map(String::from),
     );
+    wanted.extend(wanted_of_codes());
     println!("{} rows, {} carried out", census.rows, census.carried_out);
-    for (what, count) in &census.counts {
-        println!("{count:9} {what}");
-    }
-    for what in wanted {
-        assert!(census.counts.get(&what).is_some_and(|&count| count >= 5), "too few: {what}");
-    }
+    census.print();
+    census.demand(&wanted);
     assert!(3 * census.carried_out > 2 * census.rows, "most rows are carried out");
+    census.demand_both_styles();
 }
 
 #[test]

@@ -4,30 +4,63 @@ use crate::book::{Category, OptionType};
 use crate::codes::{self, Date, Style, Terms};
 use crate::random::Random;
 
+/// What isn't the one blank that may stand before a strike.
+const ODD_BLANKS: [&[u8]; 14] =
+    [b"  ", b"  ", b"   ", b"\t", b"\n", b"\x0b", b"\x0c", b"\r", b"\0", b"\xa0", b"\xc2\xa0", b" \t", b"\t ", b"_"];
+
 /// Mostly a sound code.
-pub fn some(random: &mut Random) -> String {
-    if random.one_in(4) {
-        broken(random)
-    } else {
-        sound(random)
+pub fn some(random: &mut Random) -> Vec<u8> {
+    match random.below(8) {
+        0 | 1 => broken(random).into_bytes(),
+        2 => with_an_odd_blank(random),
+        _ => {
+            let style = random.pick(&[Style::Blank, Style::NoBlank]);
+            sound(random, style).into_bytes()
+        }
     }
 }
 
-fn sound(random: &mut Random) -> String {
+fn sound(random: &mut Random, style: Style) -> String {
     let futures_code = format!("{}-{}.{:02}", letters(random), random.between(1, 12), random.below(100));
     let terms = Terms {
         futures_code: futures_code.as_bytes(),
         date: date(random),
         option: random.pick(&[OptionType::Call, OptionType::Put]),
         category: random.pick(&[Category::American, Category::American, Category::European]),
-        style: random.pick(&[Style::Blank, Style::NoBlank]),
+        style,
         strike: strike(random),
     };
     codes::write(&terms).expect("these terms have a code")
 }
 
+/// A sound code whose blank has been spoilt: something else in its place, nothing or a 0 behind it, or a blank anywhere.
+fn with_an_odd_blank(random: &mut Random) -> Vec<u8> {
+    let mut code = sound(random, Style::Blank).into_bytes();
+    let blank = code.iter().position(|&byte| byte == b' ').expect("its style has one");
+    match random.below(6) {
+        0 => {
+            code.splice(blank..=blank, random.pick(&ODD_BLANKS).iter().copied());
+        }
+        1 => code.truncate(blank + 1),
+        2 => code.insert(blank + 1, b'0'),
+        3 => insert_a_blank(random, &mut code),
+        _ => {
+            code.remove(blank);
+            insert_a_blank(random, &mut code);
+        }
+    }
+    code
+}
+
+/// Anywhere, the code's two ends included.
+fn insert_a_blank(random: &mut Random, code: &mut Vec<u8>) {
+    let place = random.between(0, code.len() as u64) as usize;
+    code.insert(place, b' ');
+}
+
 /// A code put together of parts, a few of which are broken.
 fn broken(random: &mut Random) -> String {
+    let blank = random.pick(&["", " "]);
     let mut part =
         |sound: String, broken: &[&str]| if random.one_in(10) { random.pick(broken).to_string() } else { sound };
     let letters = part("SBRF".into(), &["", "A", "ABCDEFGH", "ABCDEFGHI", "sbrf", "SB1F", "SBR ", "SBRF-"]);
@@ -46,6 +79,7 @@ fn broken(random: &mut Random) -> String {
     );
     let option = part("C".into(), &["P", "c", "", "A", "CP", "X"]);
     let category = part("A".into(), &["E", "a", "", "C", "AE", "M"]);
+    let blank = part(blank.into(), &["", " ", "  ", "   ", "\t", "\u{a0}", "0", "-", "."]);
     let strike = part(
         "17000".into(),
         &[
@@ -79,7 +113,6 @@ fn broken(random: &mut Random) -> String {
             "4294967297",
             "18446744073709551617",
             "184467440737095516160.05",
-            " 17000",
             "17000 ",
             "-1",
             "+1",
@@ -89,7 +122,7 @@ fn broken(random: &mut Random) -> String {
             "1\r7",
         ],
     );
-    format!("{letters}{hyphen}{month}{point}{year}{m}{date}{option}{category}{strike}")
+    format!("{letters}{hyphen}{month}{point}{year}{m}{date}{option}{category}{blank}{strike}")
 }
 
 fn letters(random: &mut Random) -> String {

@@ -54,6 +54,7 @@ fn long_row(random: &mut Random) -> Vec<u8> {
     let length = random.pick(&[250, 254, 255, 256, 256, 257, 257, 258, 300, 512, 10_000]);
     let (front, back): (&[u8], &[u8]) = random.pick(&[
         (b"L,GAZR-3.23M150323CA", b",100,999"),
+        (b"L,GAZR-3.23M150323CA ", b",100,999"),
         (b"L,", b",100,999"),
         (b"T,0,1,2,1,", b""),
         (b"I", b""),
