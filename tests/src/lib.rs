@@ -4,6 +4,7 @@
 //! and a speed to be measured against. Comments name the section of docs/RULES.md that a piece of code follows.
 
 pub mod book;
+pub mod code_lines;
 pub mod codes;
 pub mod load;
 pub mod market;
