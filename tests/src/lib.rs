@@ -53,3 +53,6 @@ pub fn replay(input: impl Read, mut output: impl Write) -> io::Result<()> {
 
 /// The markets that the gate compares.
 pub const GATE_SEEDS: std::ops::Range<u64> = 0..1000;
+
+/// The seeds of the contract codes that it compares beside them.
+pub const GATE_CODES: std::ops::Range<u64> = 0..200;

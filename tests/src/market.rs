@@ -64,6 +64,11 @@ pub fn market(seed: u64) -> Vec<u8> {
     market.end()
 }
 
+/// Contract codes of a seed, sound and broken, as input bytes.
+pub fn codes(seed: u64) -> Vec<u8> {
+    code::lines(&mut Random::new(seed))
+}
+
 /// What a kind of market looks like.
 struct Style {
     /// Evenings that pass before the first busy day.

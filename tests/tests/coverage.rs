@@ -1,4 +1,4 @@
-//! The markets of the gate's seeds, and the one of the full size, reach what they are meant to reach.
+//! The markets and the codes of the gate's seeds, and the market of the full size, reach what they are meant to reach.
 
 use std::collections::BTreeMap;
 
@@ -7,7 +7,7 @@ use second::codes::{self, Style, Terms};
 use second::market::market;
 use second::refusal::Refusal;
 use second::rows::{self, Rows};
-use second::GATE_SEEDS;
+use second::{GATE_CODES, GATE_SEEDS};
 
 /// How often each thing has happened.
 #[derive(Default)]
@@ -404,6 +404,28 @@ fn every_refusal_and_every_kind_of_line() {
     census.print();
     census.demand(&wanted);
     assert!(3 * census.carried_out > 2 * census.rows, "most rows are carried out");
+    census.demand_both_styles();
+}
+
+#[test]
+fn every_kind_of_code_in_lines() {
+    let mut census = Census::default();
+    for seed in GATE_CODES {
+        let input = second::market::codes(seed);
+        assert!(input.len() <= 4_000);
+        census.count_if(!input.ends_with(b"\n"), "last LF missing");
+        let mut codes = input.split(|&byte| byte == b'\n');
+        codes.next_back();
+        for code in codes {
+            census.take_code(code);
+        }
+    }
+    census.print();
+    let mut wanted = wanted_of_codes();
+    // It ends a line and is in no code.
+    wanted.retain(|what| *what != in_the_place_of_the_blank(b"\n"));
+    wanted.push("last LF missing".into());
+    census.demand(&wanted);
     census.demand_both_styles();
 }
 

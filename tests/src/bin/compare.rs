@@ -1,5 +1,6 @@
 //! Runs a program on the markets of many seeds and compares its output, byte for byte, with the second implementation's:
-//! `compare PROGRAM DIRECTORY [FIRST COUNT]`. The input of a market that differs is left in the directory.
+//! `compare PROGRAM DIRECTORY [FIRST COUNT]`. `compare codes PROGRAM DIRECTORY [FIRST COUNT]` does so with a program that
+//! reads contract codes, on the codes of many seeds. An input whose output differs is left in the directory.
 
 use std::fs::{self, File};
 use std::io::{self, Read, Write};
@@ -12,15 +13,28 @@ use std::sync::mpsc;
 use std::thread;
 use std::time::Duration;
 
-use second::market::{kind, market};
+use second::market::{codes, kind, market};
 use second::random::Random;
 use second::rows::Rows;
-use second::{output, replay, GATE_SEEDS};
+use second::{code_lines, output, replay, GATE_CODES, GATE_SEEDS};
 
 const PATIENCE: Duration = Duration::from_secs(60);
 
 /// How many differences are told in full.
 const TOLD: u64 = 5;
+
+#[derive(Clone, Copy, PartialEq, Eq)]
+enum Subject {
+    Markets,
+    Codes,
+}
+
+struct Options {
+    subject: Subject,
+    program: PathBuf,
+    directory: PathBuf,
+    seeds: Range<u64>,
+}
 
 struct Comparison {
     program: PathBuf,
@@ -31,8 +45,8 @@ struct Comparison {
 
 fn main() -> ExitCode {
     let words: Vec<String> = std::env::args().skip(1).collect();
-    let Some((program, directory, seeds)) = options(&words) else {
-        eprintln!("usage: compare PROGRAM DIRECTORY [FIRST COUNT]");
+    let Some(Options { subject, program, directory, seeds }) = options(&words) else {
+        eprintln!("usage: compare [codes] PROGRAM DIRECTORY [FIRST COUNT]");
         return ExitCode::from(2);
     };
     if !program.is_file() {
@@ -44,16 +58,10 @@ fn main() -> ExitCode {
         eprintln!("{}: {error}", comparison.directory.display());
         return ExitCode::from(2);
     }
-    for seed in seeds {
-        let result = comparison.market(seed);
-        comparison.count(&format!("market {seed} ({:?})", kind(seed)), result);
+    match subject {
+        Subject::Markets => comparison.markets(seeds),
+        Subject::Codes => comparison.codes(seeds),
     }
-    let result = comparison.closed_output();
-    comparison.count("closed output", result);
-    let result = comparison.failed_write();
-    comparison.count("failed write", result);
-    let result = comparison.read_error();
-    comparison.count("read error", result);
     println!("{} passed, {} failed", comparison.passed, comparison.failed);
     if comparison.failed == 0 {
         ExitCode::SUCCESS
@@ -62,9 +70,13 @@ fn main() -> ExitCode {
     }
 }
 
-fn options(words: &[String]) -> Option<(PathBuf, PathBuf, Range<u64>)> {
+fn options(words: &[String]) -> Option<Options> {
+    let (subject, gate, words) = match words {
+        [word, rest @ ..] if word == "codes" => (Subject::Codes, GATE_CODES, rest),
+        _ => (Subject::Markets, GATE_SEEDS, words),
+    };
     let (program, directory, seeds) = match words {
-        [program, directory] => (program, directory, GATE_SEEDS),
+        [program, directory] => (program, directory, gate),
         [program, directory, first, count] => {
             let first: u64 = first.parse().ok()?;
             (program, directory, first..first.checked_add(count.parse().ok()?)?)
@@ -72,7 +84,8 @@ fn options(words: &[String]) -> Option<(PathBuf, PathBuf, Range<u64>)> {
         _ => return None,
     };
     // A path without a slash would be looked for elsewhere.
-    Some((fs::canonicalize(program).unwrap_or(program.into()), directory.into(), seeds))
+    let program = fs::canonicalize(program).unwrap_or(program.into());
+    Some(Options { subject, program, directory: directory.into(), seeds })
 }
 
 impl Comparison {
@@ -88,6 +101,26 @@ impl Comparison {
         }
     }
 
+    fn markets(&mut self, seeds: Range<u64>) {
+        for seed in seeds {
+            let result = self.market(seed);
+            self.count(&format!("market {seed} ({:?})", kind(seed)), result);
+        }
+        let result = self.closed_output();
+        self.count("closed output", result);
+        let result = self.failed_write();
+        self.count("failed write", result);
+        let result = self.read_error();
+        self.count("read error", result);
+    }
+
+    fn codes(&mut self, seeds: Range<u64>) {
+        for seed in seeds {
+            let result = self.lines_of_codes(seed);
+            self.count(&format!("codes {seed}"), result);
+        }
+    }
+
     /// The whole output on one market.
     fn market(&self, seed: u64) -> Result<(), String> {
         let input = market(seed);
@@ -95,35 +128,54 @@ impl Comparison {
         replay(input.as_slice(), &mut expected).expect("memory can be read and written");
         let result = self.run(seed, &input).and_then(|(output, status)| {
             if output != expected {
-                Err(first_difference(&input, &expected, &output))
-            } else if !status.success() {
-                Err(format!("it ended with {status}"))
-            } else {
-                Ok(())
+                return Err(first_difference(&input, &expected, &output));
             }
+            succeeded(status)
         });
-        let path = self.directory.join(format!("market-{seed}.csv"));
+        self.keep(&format!("market-{seed}.csv"), &input, result)
+    }
+
+    /// The whole output on the codes of one seed.
+    fn lines_of_codes(&self, seed: u64) -> Result<(), String> {
+        let input = codes(seed);
+        let expected = code_lines::lines(&input);
+        let result = self.run_on_file(&input).and_then(|(output, status)| {
+            if output != expected {
+                return Err(first_unlike_line(&expected, &output));
+            }
+            succeeded(status)
+        });
+        self.keep(&format!("codes-{seed}.txt"), &input, result)
+    }
+
+    /// Leaves an input in the directory if its result is a failure.
+    fn keep(&self, name: &str, input: &[u8], result: Result<(), String>) -> Result<(), String> {
+        let path = self.directory.join(name);
         match result {
             Ok(()) => {
                 // What an earlier run may have left.
                 let _ = fs::remove_file(path);
                 Ok(())
             }
-            Err(why) => match fs::write(&path, &input) {
+            Err(why) => match fs::write(&path, input) {
                 Ok(()) => Err(format!("{why}\n  input: {}", path.display())),
                 Err(error) => Err(format!("{why}\n  {}: {error}", path.display())),
             },
         }
     }
 
+    fn run_on_file(&self, input: &[u8]) -> Result<(Vec<u8>, ExitStatus), String> {
+        let path = self.directory.join("input.csv");
+        fs::write(&path, input).map_err(|error| error.to_string())?;
+        let file = File::open(&path).map_err(|error| error.to_string())?;
+        finish(self.start(file.into())?)
+    }
+
     /// Runs the program, on a file or on a pipe that is filled in pieces of various sizes.
     fn run(&self, seed: u64, input: &[u8]) -> Result<(Vec<u8>, ExitStatus), String> {
         let mut random = Random::new(seed);
         if random.one_in(4) {
-            let path = self.directory.join("input.csv");
-            fs::write(&path, input).map_err(|error| error.to_string())?;
-            let file = File::open(&path).map_err(|error| error.to_string())?;
-            return finish(self.start(file.into())?);
+            return self.run_on_file(input);
         }
         let mut child = self.start(Stdio::piped())?;
         let mut pipe = child.stdin.take().expect("it was asked for");
@@ -207,6 +259,14 @@ impl Comparison {
     }
 }
 
+fn succeeded(status: ExitStatus) -> Result<(), String> {
+    if status.success() {
+        Ok(())
+    } else {
+        Err(format!("it ended with {status}"))
+    }
+}
+
 /// Lets a write to a full pipe fail and not wait.
 fn fail_when_full(pipe: &io::PipeWriter) -> io::Result<()> {
     extern "C" {
@@ -244,16 +304,31 @@ fn finish(mut child: Child) -> Result<(Vec<u8>, ExitStatus), String> {
 
 /// Tells the first row whose lines differ, with both lines.
 fn first_difference(input: &[u8], expected: &[u8], output: &[u8]) -> String {
-    let lines = |bytes: &[u8]| -> Vec<String> {
-        bytes.split_inclusive(|&byte| byte == b'\n').map(|line| String::from_utf8_lossy(line).into_owned()).collect()
-    };
-    let (expected, output) = (lines(expected), lines(output));
-    let place = expected.iter().zip(&output).take_while(|(a, b)| a == b).count();
-    let shown = |lines: &[String]| lines.get(place).map_or("nothing".into(), |line| format!("{line:?}"));
-    let line = expected.get(place).or(output.get(place));
-    let row: usize = line.and_then(|line| line.split(',').next()?.parse().ok()).unwrap_or(0);
+    let (_, expected, output) = unlike_lines(expected, output);
+    let line = if expected.is_empty() { output } else { expected };
+    let number = line.split(|&byte| byte == b',').next().unwrap_or_default();
+    let row: usize = String::from_utf8_lossy(number).parse().unwrap_or(0);
     let text = row_text(input, row);
-    format!("row {row} differs: {text:?}\n  expected {}\n  but got  {}", shown(&expected), shown(&output))
+    format!("row {row} differs: {text:?}\n{}", both_lines(expected, output))
+}
+
+/// Tells the first line that differs.
+fn first_unlike_line(expected: &[u8], output: &[u8]) -> String {
+    let (number, expected, output) = unlike_lines(expected, output);
+    format!("line {number} differs\n{}", both_lines(expected, output))
+}
+
+/// The number of the first line that differs, and both lines; a line that isn't there is empty.
+fn unlike_lines<'a>(expected: &'a [u8], output: &'a [u8]) -> (usize, &'a [u8], &'a [u8]) {
+    let lines = |bytes: &'a [u8]| bytes.split_inclusive(|&byte| byte == b'\n');
+    let alike = lines(expected).zip(lines(output)).take_while(|(a, b)| a == b).count();
+    let line = |bytes: &'a [u8]| lines(bytes).nth(alike).unwrap_or_default();
+    (alike + 1, line(expected), line(output))
+}
+
+fn both_lines(expected: &[u8], output: &[u8]) -> String {
+    let shown = |line: &[u8]| if line.is_empty() { "nothing".into() } else { format!("\"{}\"", line.escape_ascii()) };
+    format!("  expected {}\n  but got  {}", shown(expected), shown(output))
 }
 
 fn row_text(input: &[u8], number: usize) -> String {

@@ -4,6 +4,9 @@ use crate::book::{Category, OptionType};
 use crate::codes::{self, Date, Style, Terms};
 use crate::random::Random;
 
+/// An input of codes has at most this many bytes.
+const LONGEST_INPUT: usize = 4_000;
+
 /// What isn't the one blank that may stand before a strike.
 const ODD_BLANKS: [&[u8]; 14] =
     [b"  ", b"  ", b"   ", b"\t", b"\n", b"\x0b", b"\x0c", b"\r", b"\0", b"\xa0", b"\xc2\xa0", b" \t", b"\t ", b"_"];
@@ -17,6 +20,33 @@ pub fn some(random: &mut Random) -> Vec<u8> {
             let style = random.pick(&[Style::Blank, Style::NoBlank]);
             sound(random, style).into_bytes()
         }
+    }
+}
+
+/// An input of codes, each ended with LF; now and then the last lacks it.
+pub fn lines(random: &mut Random) -> Vec<u8> {
+    let mut lines = Vec::new();
+    loop {
+        let mut code = some(random);
+        if random.one_in(8) {
+            change_a_byte(random, &mut code);
+        }
+        if lines.len() + code.len() >= LONGEST_INPUT {
+            break;
+        }
+        lines.extend(code);
+        lines.push(b'\n');
+    }
+    if random.one_in(4) {
+        lines.pop();
+    }
+    lines
+}
+
+fn change_a_byte(random: &mut Random, code: &mut [u8]) {
+    if !code.is_empty() {
+        let place = random.below(code.len() as u64) as usize;
+        code[place] = random.below(256) as u8;
     }
 }
 
