@@ -105,6 +105,8 @@ impl Census {
             Err(refusal) => {
                 let is_of_its_style = has_its_blank(code) || !code.contains(&b' ');
                 self.count_if(is_of_its_style, &format!("refusal {} of a code {style}", refusal.number()));
+                let strike_too = refusal == Refusal::Date && strike_is_out_of_bounds(code);
+                self.count_if(strike_too, &format!("no date and a strike out of bounds {style}"));
                 self.take_odd_blanks(code);
             }
         }
@@ -267,6 +269,14 @@ fn has_its_blank(code: &[u8]) -> bool {
         && code.windows(3).any(|bytes| matches!(bytes, [b'A' | b'E', b' ', b'0'..=b'9']))
 }
 
+/// Whether a code that is refused for its date would be for its strike too.
+fn strike_is_out_of_bounds(code: &[u8]) -> bool {
+    let point = code.iter().position(|&byte| byte == b'.').expect("its layout is sound");
+    let date = point + b".23".len() + DATE;
+    let dated = [&code[..date], b"010100", &code[date + b"010100".len()..]].concat();
+    codes::read(&dated) == Err(Refusal::StrikeText)
+}
+
 // How far behind the futures code the date and the letters of type and category stand.
 const DATE: usize = 1;
 const TYPE: usize = 7;
@@ -322,6 +332,8 @@ fn wanted_of_codes() -> Vec<String> {
         "refusal 17 of a code without the blank",
         "refusal 18 of a code without the blank",
         "refusal 19 of a code without the blank",
+        "no date and a strike out of bounds with the blank",
+        "no date and a strike out of bounds without the blank",
         "two blanks before the strike",
         "blank inside the strike",
         "blank inside another part",

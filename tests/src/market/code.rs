@@ -13,9 +13,10 @@ const ODD_BLANKS: [&[u8]; 14] =
 
 /// Mostly a sound code.
 pub fn some(random: &mut Random) -> Vec<u8> {
-    match random.below(8) {
-        0 | 1 => broken(random).into_bytes(),
-        2 => with_an_odd_blank(random),
+    match random.below(16) {
+        0..=3 => broken(random).into_bytes(),
+        4 | 5 => with_an_odd_blank(random),
+        6 => without_a_date(random).into_bytes(),
         _ => {
             let style = random.pick(&[Style::Blank, Style::NoBlank]);
             sound(random, style).into_bytes()
@@ -86,6 +87,15 @@ fn with_an_odd_blank(random: &mut Random) -> Vec<u8> {
 fn insert_a_blank(random: &mut Random, code: &mut Vec<u8>) {
     let place = random.between(0, code.len() as u64) as usize;
     code.insert(place, b' ');
+}
+
+/// A code with no date, and mostly with a strike that would be refused too.
+fn without_a_date(random: &mut Random) -> String {
+    let date = random.pick(&["000123", "320123", "290223", "310423", "150023", "011323"]);
+    let kind = random.pick(&["CA", "CE", "PA", "PE"]);
+    let blank = random.pick(&["", " "]);
+    let strike = random.pick(&["17000", "0", "100000.01", "100001", "18446744073709551617", "0.50", "00"]);
+    format!("SBRF-6.23M{date}{kind}{blank}{strike}")
 }
 
 /// A code put together of parts, a few of which are broken.
