@@ -1,5 +1,5 @@
 -- The promises on the blank before the strike (RULES, "Contract codes"), over all byte lists and all terms.
-use Prim.Native.Nat.{ℕ, _+_, _<_}
+use Prim.Native.Nat.{ℕ, _+_, _≤_, _<_}
 use mathlib.Core.Path.{_≡_, refl, sym, ap, subst, _∙_}
 use mathlib.Core.List.{List, _∷_, _++_}
 use mathlib.Core.Logic.{⊎-elim}
@@ -9,6 +9,7 @@ use lib.ListN.{length, drop, take, getD}
 use lib.Seq.{drop-at, take-at, getD-drop, length-take-le}
 use Rattle.terms.specs.Refusals as no
 use Rattle.decimal.proofs.Each.{each-at}
+use Rattle.contract.specs.Future.{FutureCode}
 use Rattle.contract.specs.Style.{styleText}
 use Rattle.contract.specs.Strike.{strikeText}
 use Rattle.contract.specs.Code.{codeText, Says, readCode, futureOf}
@@ -42,6 +43,21 @@ blank-before-strike s f t i c e =
     let p = blank-place s f t i c e in
     (p .0, (p .1, omega (arith, p .1, behind-blank s f t c (p .0))))
 
+-- so a blank anywhere else is 17
+pub blank-elsewhere-refused : (s : List ℕ) (i : ℕ) →
+    getD s i 0 ≡ 32 →
+    ((f : List ℕ) → FutureCode f → take (length f) s ≡ f → i ≡ behindCategory f → ⊥) →
+    answer (readCode s) ≡ no.code
+blank-elsewhere-refused s i e elsewhere =
+    reader-refuses-layout s .1 (λ f t c.
+    let front : take (length f) s ≡ f = ap (λ (l : List ℕ). take (length f) l) (c .text) ∙ take-at f _ (length f) refl in
+    elsewhere f (c .code) front (blank-place s f t i c e .1))
+
+-- a blank with no strike behind it is 17
+pub blank-at-the-end-refused : (s : List ℕ) (i : ℕ) → getD s i 0 ≡ 32 → length s ≤ i + 1 → answer (readCode s) ≡ no.code
+blank-at-the-end-refused s i e h =
+    reader-refuses-layout s .1 (λ f t c. let p = blank-before-strike s f t i c e in omega (arith, p .1 .1))
+
 -- more than one blank is 17
 pub more-blanks-refused : (s : List ℕ) (i j : ℕ) →
     getD s i 0 ≡ 32 →
@@ -51,7 +67,7 @@ pub more-blanks-refused : (s : List ℕ) (i j : ℕ) →
 more-blanks-refused s i j p q apart =
     reader-refuses-layout s .1 (λ f t c. apart (blank-place s f t i c p .1 ∙ sym (blank-place s f t j c q .1)))
 
--- so is every byte that is no capital, digit, hyphen, point or blank: another white byte, a lower letter
+-- every byte that is no capital, digit, hyphen, point or blank is 17: another white byte, a lower letter
 pub other-bytes-refused : (s : List ℕ) (i : ℕ) →
     i < length s →
     (CodeByte (getD s i 0) → ⊥) →
