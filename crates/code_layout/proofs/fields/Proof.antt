@@ -73,6 +73,7 @@ returns-5 : tie.Need-returns-5
 unfolding layoutAt
 returns-5 c = search fields depth 14
 
+-- `search` does not look as far back as the first field: its fact is listed
 returns-6 : tie.Need-returns-6
 unfolding layoutAt
 returns-6 c = search (fields, c .before .before .before .before .before .before .before .before .before .before .before .before .before .before .before .before .before .before .before .before .leading .ensures) depth 14
