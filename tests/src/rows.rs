@@ -322,7 +322,7 @@ mod tests {
     }
 
     #[test]
-    fn at_most_256_bytes() {
+    fn a_row_of_the_most_bytes_and_one_more() {
         let list = |front: &str, length: usize| {
             let back = ",100,1";
             let row = format!("{front}{}{back}", "9".repeat(length - front.len() - back.len()));

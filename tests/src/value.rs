@@ -32,7 +32,7 @@ mod tests {
     }
 
     #[test]
-    fn coefficients_of_01() {
+    fn coefficients_of_the_rules() {
         assert_eq!(coefficient(100_000, 100), 100_000);
         assert_eq!(coefficient(100_000, 3), 3_333_333);
         assert_eq!(coefficient(50_000, 100), 50_000);
@@ -40,7 +40,7 @@ mod tests {
     }
 
     #[test]
-    fn values_of_01() {
+    fn values_of_the_rules() {
         assert_eq!(value(317, 92_345_600), 292_736);
         assert_eq!(value(1_000_000, 3_333_333), 33_333_330);
         assert_eq!(value(1, 50_000), 1);

@@ -274,7 +274,7 @@ fn sessions_without_live_series() {
 }
 
 #[test]
-fn after_the_evening_of_day_999() {
+fn after_the_last_evening() {
     let mut book = book(&"V ".repeat(999));
     assert_eq!(book.day, 999);
     run(&mut book, "L,GAZR-3.23M150323CA17000,100,999 T,0,1,2,3,0 M,0,0,0,100000 I M,0,0,0,100000 V");
