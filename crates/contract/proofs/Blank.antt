@@ -53,7 +53,7 @@ blank-elsewhere-refused s i e elsewhere =
     let front : take (length f) s ≡ f = ap (λ (l : List ℕ). take (length f) l) (c .text) ∙ take-at f _ (length f) refl in
     elsewhere f (c .code) front (blank-place s f t i c e .1))
 
--- a blank with no strike behind it is 17
+-- a blank that ends the code is 17
 pub blank-at-the-end-refused : (s : List ℕ) (i : ℕ) → getD s i 0 ≡ 32 → length s ≤ i + 1 → answer (readCode s) ≡ no.code
 blank-at-the-end-refused s i e h =
     reader-refuses-layout s .1 (λ f t c. let p = blank-before-strike s f t i c e in omega (arith, p .1 .1))
