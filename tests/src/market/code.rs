@@ -7,7 +7,7 @@ use crate::random::Random;
 /// An input of codes has at most this many bytes.
 const LONGEST_INPUT: usize = 4_000;
 
-/// What isn't the one blank that may stand before a strike.
+/// What isn't the one blank that may stand before a strike; two blanks are here twice, to be drawn more often.
 const ODD_BLANKS: [&[u8]; 14] =
     [b"  ", b"  ", b"   ", b"\t", b"\n", b"\x0b", b"\x0c", b"\r", b"\0", b"\xa0", b"\xc2\xa0", b" \t", b"\t ", b"_"];
 
