@@ -6,7 +6,7 @@ use crate::codes::{self, Date, Style, Terms};
 /// Futures code, day, month and year, strike in hundredths: what the writer is given beside the codes of the input.
 type OwnTerms = (&'static str, [u64; 3], u64);
 
-const WITHOUT_BLANK: [OwnTerms; 13] = [
+const OWN_TERMS: [OwnTerms; 13] = [
     ("GAZR-3.23", [15, 3, 23], 1_700_000),
     ("ABCDEFGH-12.99", [31, 12, 99], 9_999_999),
     ("A-1.00", [29, 2, 0], 1),
@@ -22,25 +22,14 @@ const WITHOUT_BLANK: [OwnTerms; 13] = [
     ("GAZR-3.23", [15, 3, 23], u64::MAX),
 ];
 
-const WITH_BLANK: [OwnTerms; 8] = [
-    ("GAZR-3.23", [15, 3, 23], 1_700_000),
-    ("ABCDEFGH-12.99", [31, 12, 99], 9_999_999),
-    ("A-1.00", [29, 2, 0], 1),
-    ("GAZR-3.23", [15, 100, 23], 1_700_000),
-    ("GAZR-3.23M", [15, 3, 23], 1_700_000),
-    ("GAZR-3.23", [31, 4, 23], 0),
-    ("GAZR-3.23", [15, 3, 23], 0),
-    ("GAZR-3.23", [15, 3, 23], 10_000_001),
-];
-
-/// A line for each code of the input, which ends each with LF, then one for each of the terms above. Bytes behind the
+/// A line for each code of the input, which ends each with LF, then one for each of the terms above, in both styles. Bytes behind the
 /// last LF are no code.
 pub fn lines(input: &[u8]) -> Vec<u8> {
     let mut codes = input.split(|&byte| byte == b'\n');
     codes.next_back();
     let mut lines: Vec<u8> = codes.flat_map(line_of_code).collect();
-    for (style, all) in [(Style::NoBlank, &WITHOUT_BLANK[..]), (Style::Blank, &WITH_BLANK)] {
-        for own in all {
+    for style in [Style::NoBlank, Style::Blank] {
+        for own in &OWN_TERMS {
             lines.extend(line_of_terms(&terms(own, style)).into_bytes());
         }
     }
@@ -153,11 +142,16 @@ GAZR-3.23 15 3 23 18446744073709551615 no blank refused 19 0
 GAZR-3.23 15 3 23 1700000 blank written GAZR-3.23M150323PE 17000 24
 ABCDEFGH-12.99 31 12 99 9999999 blank written ABCDEFGH-12.99M311299PE 99999.99 32
 A-1.00 29 2 0 1 blank written A-1.00M290200PE 0.01 20
+GAZR-3.23 100 3 23 1700000 blank refused 17 0
 GAZR-3.23 15 100 23 1700000 blank refused 17 0
+GAZR-3.23 15 3 100 1700000 blank refused 17 0
 GAZR-3.23M 15 3 23 1700000 blank refused 17 0
-GAZR-3.23 31 4 23 0 blank refused 18 0
+ 15 3 23 1700000 blank refused 17 0
+GAZR-3.23 0 3 23 0 blank refused 18 0
+GAZR-3.23 31 4 23 1700000 blank refused 18 0
 GAZR-3.23 15 3 23 0 blank refused 19 0
 GAZR-3.23 15 3 23 10000001 blank refused 19 0
+GAZR-3.23 15 3 23 18446744073709551615 blank refused 19 0
 ";
         for input in ["", "GAZR-3.23M150323CA17000"] {
             assert_eq!(String::from_utf8(lines(input.as_bytes())).unwrap(), expected);
