@@ -1,13 +1,12 @@
 -- A listing by a code with the blank before its strike (RULES, "Contract codes" and "Rows").
 use Prim.Native.Nat.{ℕ, _+_, _≤_}
-use mathlib.Core.Path.{_≡_, refl, sym, ap, _∙_}
+use mathlib.Core.Path.{_≡_, refl, sym, _∙_}
 use mathlib.Core.List.{List, [], _∷_, _++_}
 use mathlib.Core.Logic.{inl, inr}
 use native.Mathlib.Omega.{arith}
 use lib.ListN.{length, length-append}
 use Rattle.decimal.specs.Text.{decimal}
 use Rattle.decimal.proofs.Each.{Each}
-use Rattle.contract.specs.Bounds.{maxCode}
 use Rattle.contract.specs.Code.{readCode}
 use Rattle.contract.specs.Promises.{inStyle, capital, digit, hyphen, point}
 use Rattle.contract.specs.declared.types.Style.the-variants.{NoBlank}
