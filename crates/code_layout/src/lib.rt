@@ -37,7 +37,9 @@ pub fn fields(s: &[u8]) -> LayoutRead
     else {
         return LayoutRead::NoLayout;
     };
-    let StyleRead { style, next: d } = style::blank(s, c);
+    let StyleRead::Styled { style, next: d } = style::blank(s, c) else {
+        return LayoutRead::NoLayout;
+    };
     let StrikeRead::Strike(strike) = strike::last(s, d) else {
         return LayoutRead::NoLayout;
     };

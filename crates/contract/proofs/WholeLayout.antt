@@ -26,7 +26,7 @@ use Rattle.contract.proofs.Scanning.{after-scanned, byte-read, byte-tex
 use Rattle.contract.proofs.FutureField.{future-read, future-text}
 use Rattle.contract.proofs.DateField.{after-date, date-read, after-date-text, date-text}
 use Rattle.contract.proofs.KindField.{after-kind, kind-read, kind-text}
-use Rattle.contract.proofs.StyleField.{style-read, style-text}
+use Rattle.contract.proofs.StyleField.{after-style, style-read, style-text}
 use Rattle.contract.proofs.StrikeField.{after-strike, strike-read, strike-text}
 
 -- ---- the layout
@@ -71,19 +71,19 @@ none-laid : (n : ℕ) (x : Terms) → NoLayout ≡ Laid n x → ⊥
 none-laid n x e = let z : _≡_ {A = ℕ} 0 1 = cc in omega arith
 
 pub layout-text : (s : List ℕ) (n : ℕ) (x : Terms) → layoutAt s ≡ Laid n x → Told s n x
-unfolding layoutAt onStyle
+unfolding layoutAt
 layout-text s n x e =
     after-scanned NoLayout (Laid n x) (none-laid n x) (futureAt s) _ e (λ k pk ek.
     after-scanned NoLayout (Laid n x) (none-laid n x) (byteAt s k 77) _ ek (λ a pa ea.
     after-date NoLayout (Laid n x) (none-laid n x) (dateAt s a) _ ea (λ d b pb eb.
     after-kind NoLayout (Laid n x) (none-laid n x) (kindAt s b) _ eb (λ o g c pc ec.
-    after-strike NoLayout (Laid n x) (none-laid n x) (strikeAt s (styleAt s c .next)) _ ec (λ h ph eh.
-    let w = styleAt s c .style in
+    after-style NoLayout (Laid n x) (none-laid n x) (styleAt s c) _ ec (λ w i pi ei.
+    after-strike NoLayout (Laid n x) (none-laid n x) (strikeAt s i) _ ei (λ h ph eh.
     let y : k ≡ n = cc in
     let z : _≡_ {A = Terms} (record { date = d; option = o; category = g; style = w; strike = h }) x = cc in
     let lead = future-text s k pk in
     let dates = date-text s a d b pb in
-    let st = strike-text s (styleAt s c .next) h ph in
+    let st = strike-text s i h ph in
     let t : Terms = record { date = d; option = o; category = g; style = w; strike = st .strike } in
     let whole : s ≡ codeText (take k s) t =
     sym (take-append-drop k s)
@@ -93,7 +93,7 @@ layout-text s n x e =
     (dates .1
     ∙ ap (λ (l : List ℕ). dateText d ++ l)
     (kind-text s b o g c pc
-    ∙ ap (λ (l : List ℕ). kindText o g ++ l) (style-text s c ∙ ap (λ (l : List ℕ). styleText w ++ l) (st .text)))))
+    ∙ ap (λ (l : List ℕ). kindText o g ++ l) (style-text s c w i pi ∙ ap (λ (l : List ℕ). styleText w ++ l) (st .text)))))
     in
     subst (λ (i : ℕ). Told s i x) y
     (record {
@@ -106,7 +106,7 @@ layout-text s n x e =
           };
       count = sym z ∙ ap (λ (i : ℕ). record { date = d; option = o; category = g; style = w; strike = i }) (st .count);
       within = lead .within;
-    }))))))
+    })))))))
 
 -- ---- what follows the layout, the verdict and the reading, by what was answered
 module _ {A : Type 0} (x : A) (k : ℕ → Terms → A) (r m : LayoutRead) where

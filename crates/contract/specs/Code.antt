@@ -53,7 +53,7 @@ layoutAt s =
     onScanned (byteAt s n 77) NoLayout (λ a.
     onDate (dateAt s a) NoLayout (λ date b.
     onKind (kindAt s b) NoLayout (λ option category c.
-    onStyle (styleAt s c) (λ style d.
+    onStyle (styleAt s c) NoLayout (λ style d.
     onStrike (strikeAt s d) NoLayout (λ strike.
     Laid n (record { date = date; option = option; category = category; style = style; strike = strike })))))))
 

@@ -6,15 +6,18 @@ use Rattle.decimal.specs.Scan.{onScanned, byteAt}
 use Rattle.contract.specs.declared.types.Style.{Style}
 use Rattle.contract.specs.declared.types.Style.the-variants.{Blank, NoBlank}
 use Rattle.contract.specs.declared.types.StyleRead.{StyleRead}
+use Rattle.contract.specs.declared.types.StyleRead.the-variants.{Styled, NoStyle}
 
 unfoldable pub styleText : Style → List ℕ
 styleText Blank = 32 ∷ []
 styleText NoBlank = []
 
--- reading it at a place: the strike begins behind the blank, or at once where none stands
+-- reading it at a place: the strike begins at once where no blank stands, else behind the blank; "More than one blank is 17"
 unfoldable pub styleAt : List ℕ → ℕ → StyleRead
 styleAt s at =
-    onScanned (byteAt s at 32) (record { style = NoBlank; next = at }) (λ next. record { style = Blank; next = next })
+    onScanned (byteAt s at 32) (Styled NoBlank at) (λ next.
+    onScanned (byteAt s next 32) (Styled Blank next) (λ more. NoStyle))
 
-unfoldable pub onStyle : {A : Type 0} → StyleRead → (Style → ℕ → A) → A
-onStyle read next = next (read .style) (read .next)
+unfoldable pub onStyle : {A : Type 0} → StyleRead → A → (Style → ℕ → A) → A
+onStyle (Styled z n) none next = next z n
+onStyle NoStyle none next = none

@@ -8,18 +8,21 @@ ghost use lib.ListN.{length};
 ghost use Rattle.decimal.specs.Put.{Put};
 ghost use Rattle.contract.specs.Style.{styleText, styleAt};
 
-// The style, and the place where the strike begins.
+// The style, and the place where the strike begins. A second blank is no style.
 pub fn blank(s: &[u8], at: usize) -> StyleRead
     ensures { λ r. ⌜ r ≡ styleAt (now (s .entry)) at ⌝ }
 {
-    match scan::expect(s, at, b' ') {
-        Scanned::Next(next) => StyleRead {
-            style: Style::Blank,
-            next,
-        },
-        Scanned::Broken => StyleRead {
+    let Scanned::Next(next) = scan::expect(s, at, b' ') else {
+        return StyleRead::Styled {
             style: Style::NoBlank,
             next: at,
+        };
+    };
+    match scan::expect(s, next, b' ') {
+        Scanned::Next(_) => StyleRead::NoStyle,
+        Scanned::Broken => StyleRead::Styled {
+            style: Style::Blank,
+            next,
         },
     }
 }

@@ -60,11 +60,8 @@ returns-4 c = search fields depth 14
 blank-requires : tie.Need-blank-requires
 blank-requires c κs = search needs
 
-last-requires : tie.Need-last-requires
-last-requires c κs = search needs
-
-enum-known-strike : tie.Need-enum-known-strike
-enum-known-strike c = search needs
+enum-known-style : tie.Need-enum-known-style
+enum-known-style c = search needs
 
 enum-told-5 : tie.Need-enum-told-5
 enum-told-5 c = search needs
@@ -73,10 +70,23 @@ returns-5 : tie.Need-returns-5
 unfolding layoutAt
 returns-5 c = search fields depth 14
 
--- `search` does not look as far back as the first field: its fact is listed
+last-requires : tie.Need-last-requires
+last-requires c κs = search needs
+
+enum-known-strike : tie.Need-enum-known-strike
+enum-known-strike c = search needs
+
+enum-told-6 : tie.Need-enum-told-6
+enum-told-6 c = search needs
+
+-- here and below `search` does not look as far back as the first field: its facts are listed
 returns-6 : tie.Need-returns-6
 unfolding layoutAt
-returns-6 c = search (fields, c .before .before .before .before .before .before .before .before .before .before .before .before .before .before .before .before .before .before .before .before .leading .ensures) depth 14
+returns-6 c = search (fields, c .before .before .before .before .before .before .before .before .before .before .before .before .before .before .before .before .before .before .before .before .before .before .leading .ensures) depth 14
+
+returns-7 : tie.Need-returns-7
+unfolding layoutAt
+returns-7 c = search (fields, c .before .before .before .before .before .before .before .before .before .before .before .before .before .before .before .before .before .before .before .before .before .before .before .leading .ensures, c .before .before .before .before .before .before .before .before .before .before .before .before .before .before .before .before .before .before .before .before .before .future .given) depth 14
 
 pub fields-spec : {M : Type 1} → statement M
 fields-spec =
@@ -99,8 +109,11 @@ fields-spec =
     enum-told-4
     returns-4
     blank-requires
-    last-requires
-    enum-known-strike
+    enum-known-style
     enum-told-5
     returns-5
-    returns-6)
+    last-requires
+    enum-known-strike
+    enum-told-6
+    returns-6
+    returns-7)
