@@ -22,5 +22,6 @@ pub fn of_row(why: Refusal) -> u64
     match why {
         Refusal::Row => refusals::ROW,
         Refusal::Code(c) => of_code(c),
+        Refusal::NoTradingDate => refusals::NO_TRADING_DATE,
     }
 }

@@ -16,12 +16,12 @@ ghost use Rattle.stream.specs.Input.{InRoom};
 ghost use Rattle.stream.specs.Output.{outputRoom, waitingRoom};
 ghost use Rattle.stream.specs.Parts.{Flushed};
 
-// Reads behind what is kept, where there is room: a read of no bytes is the input's end.
-pub fn fill(buf: &mut [u8], have: usize) -> Input
+// Reads of a file behind what is kept, where there is room: a read of no bytes is the file's end.
+pub fn fill(fd: i32, buf: &mut [u8], have: usize) -> Input
     requires { ⌜ have < length (now buf) ⌝ }
     ensures { λ r. ⌜ (InRoom have (length (now (buf .entry))) r) × (take have (now (buf .exit)) ≡ take have (now (buf .entry))) ⌝ }
 {
-    let got = libc::read(0, &mut buf[have..]);
+    let got = libc::read(fd, &mut buf[have..]);
     if got < 0 {
         return Input::Failed;
     }

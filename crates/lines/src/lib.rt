@@ -1,5 +1,6 @@
 // One line of the output. Each function puts its text at a place of the buffer and returns the place after it.
 use book::state::Found;
+use terms::refusals::CALENDAR;
 ghost use mathlib.Core.List.{[], _∷_, _++_};
 ghost use Prim.Native.Nat.{_+_, _≤_};
 ghost use lib.ListN.{length};
@@ -28,6 +29,16 @@ pub fn answer(out: &mut [u8], at: usize, row: u64, found: Found, number: u64) ->
     let digits = put::bytes(out, commas, b",,");
     let next = line_fields::number(out, digits, number);
     line_fields::end(out, next)
+}
+
+// What stands in place of all rows where the calendar is refused: the header, and the line of row 0.
+pub fn no_calendar(out: &mut [u8]) -> usize
+    requires { ⌜ text.lineRoom + text.lineRoom ≤ length (now out) ⌝ }
+    ensures { λ r. ⌜ Put (now (out .entry)) 0 rule.noCalendar (now (out .exit)) r ⌝ }
+    ensures { λ r. ⌜ r ≤ text.lineRoom + text.lineRoom ⌝ }
+{
+    let next = header(out, 0);
+    answer(out, next, 0, Found::Nothing, CALENDAR)
 }
 
 // The money of an account, where it is not 0.

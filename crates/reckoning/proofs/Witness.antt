@@ -1,5 +1,5 @@
--- The demand is not empty: the example in crates/replay/stdin is a list with an intraday session and two evenings carried out, the second an expiry at the
--- money; and another option price in the mark for its intraday session makes another list that is alike.
+-- The demand is not empty: the first eight rows of crates/replay/stdin are a list with an intraday session and two evenings carried out, the second
+-- an expiry at the money; and another option price in the mark for its intraday session makes another list that is alike.
 use mathlib.Core.Path.{_≡_, refl, sym, ap, _∙_}
 use mathlib.Core.Logic.{_⊎_, inl, inr}
 use mathlib.Core.Bool.{Bool, true, _&&_}

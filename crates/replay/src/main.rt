@@ -1,22 +1,28 @@
-// Replays rows of events: standard input to standard output, in a loop that holds the book.
+// Replays rows of events: standard input to standard output, in a loop that holds the book. The trading calendar is that of the file
+// calendar.txt.
 use buffer_rows::pass;
 use buffers::fill;
 use buffers::flushed;
+use calendar::types::Reading;
 use row_step::answer_row;
 use stream::types::Input;
 use stream::types::Replay;
 use stream::types::Run;
 use stream::types::Waiting;
 ghost use Prim.Native.Nat.{_≤_, _<_};
+ghost use mathlib.Core.Path.{_≡_};
+ghost use mathlib.Core.Bool.{true};
 ghost use lib.ListN.{length, take};
+ghost use Rattle.calendar.specs.Days.{datesOf};
 ghost use Rattle.rows.specs.Cut.{keptBytes};
+ghost use Rattle.report.specs.Report.{noCalendar};
 ghost use Rattle.stream.specs.Input.{ending};
-ghost use Rattle.stream.specs.Output.{outputRoom, waitingRoom, Ready, TurnedBy, Turned, Replayed};
+ghost use Rattle.stream.specs.Output.{outputRoom, waitingRoom, Ready, TurnedBy, Turned, Replayed, Ran};
 
 // The end of the input: what it left without CRLF is a row.
-fn last_row(buf: &[u8], out: &mut [u8], replay: Replay, have: usize) -> Run
+fn last_row(calendar: &[u64], buf: &[u8], out: &mut [u8], replay: Replay, have: usize) -> Run
     requires { ⌜ (Ready replay (now out)) × (have ≤ length (now buf)) ⌝ }
-    ensures { λ r. ⌜ TurnedBy ending (take have (now (buf .entry))) replay (now (out .entry)) r (now (buf .entry)) (now (out .exit)) ⌝ }
+    ensures { λ r. ⌜ TurnedBy (datesOf (now (calendar .entry))) ending (take have (now (buf .entry))) replay (now (out .entry)) r (now (buf .entry)) (now (out .exit)) ⌝ }
 {
     if have == 0 {
         return Run {
@@ -25,7 +31,7 @@ fn last_row(buf: &[u8], out: &mut [u8], replay: Replay, have: usize) -> Run
             going: false,
         };
     }
-    let mut next = answer_row(&buf[..have], out, replay);
+    let mut next = answer_row(calendar, &buf[..have], out, replay);
     let waiting = flushed(out, next.at, next.intact);
     next.at = waiting.at;
     next.intact = waiting.intact;
@@ -37,15 +43,15 @@ fn last_row(buf: &[u8], out: &mut [u8], replay: Replay, have: usize) -> Run
 }
 
 // One turn: what a read gives is gone through.
-fn turn(buf: &mut [u8], out: &mut [u8], run: Run) -> Run
+fn turn(calendar: &[u64], buf: &mut [u8], out: &mut [u8], run: Run) -> Run
     requires { ⌜ (Ready (run .replay) (now out)) × (run .have ≤ keptBytes) × (keptBytes < length (now buf)) ⌝ }
-    ensures { λ r. ⌜ Turned run (now (buf .entry)) (now (out .entry)) r (now (buf .exit)) (now (out .exit)) ⌝ }
+    ensures { λ r. ⌜ Turned (datesOf (now (calendar .entry))) run (now (buf .entry)) (now (out .entry)) r (now (buf .exit)) (now (out .exit)) ⌝ }
 {
     let have = run.have;
     let replay = run.replay;
-    match fill(buf, have) {
-        Input::UpTo(end) => pass(buf, out, replay, end),
-        Input::Ended => last_row(buf, out, replay, have),
+    match fill(0, buf, have) {
+        Input::UpTo(end) => pass(calendar, buf, out, replay, end),
+        Input::Ended => last_row(calendar, buf, out, replay, have),
         Input::Failed => Run {
             replay: replay,
             have: 0,
@@ -55,9 +61,9 @@ fn turn(buf: &mut [u8], out: &mut [u8], run: Run) -> Run
 }
 
 // The header, and then the rows of the whole input, or those up to where the run breaks off.
-fn replayed(buf: &mut [u8], out: &mut [u8]) -> Waiting
+fn replayed(calendar: &[u64], buf: &mut [u8], out: &mut [u8]) -> Waiting
     requires { ⌜ (keptBytes < length (now buf)) × (outputRoom ≤ length (now out)) ⌝ }
-    ensures { λ r. ⌜ (r .at ≤ waitingRoom) × Replayed (now (out .exit)) r ⌝ }
+    ensures { λ r. ⌜ (r .at ≤ waitingRoom) × Replayed (datesOf (now (calendar .entry))) (now (out .exit)) r ⌝ }
 {
     let at = lines::header(out, 0);
     let book = clearing::empty();
@@ -73,7 +79,7 @@ fn replayed(buf: &mut [u8], out: &mut [u8]) -> Waiting
     };
     let mut turns = u64::MAX;
     while turns > 0 {
-        let next = turn(buf, out, run);
+        let next = turn(calendar, buf, out, run);
         run = next;
         let going = run.going;
         if !going {
@@ -91,7 +97,7 @@ fn replayed(buf: &mut [u8], out: &mut [u8]) -> Waiting
 
 // Writes what waits in the output, where no write before it has failed.
 fn finish(out: &[u8], waiting: Waiting)
-    requires { ⌜ (waiting .at ≤ length (now out)) × Replayed (now out) waiting ⌝ }
+    requires { ⌜ (waiting .at ≤ length (now out)) × Ran (now out) waiting ⌝ }
 {
     let at = waiting.at;
     let intact = waiting.intact;
@@ -100,18 +106,44 @@ fn finish(out: &[u8], waiting: Waiting)
     }
 }
 
-fn with_input(out: &mut [u8]) -> Waiting
+fn with_input(calendar: &[u64], out: &mut [u8]) -> Waiting
     requires { ⌜ outputRoom ≤ length (now out) ⌝ }
-    ensures { λ r. ⌜ (r .at ≤ waitingRoom) × Replayed (now (out .exit)) r ⌝ }
+    ensures { λ r. ⌜ (r .at ≤ waitingRoom) × Replayed (datesOf (now (calendar .entry))) (now (out .exit)) r ⌝ }
 {
     let mut space = io::large_buffer();
     let buf: &mut [u8] = &mut space;
-    replayed(buf, out)
+    replayed(calendar, buf, out)
+}
+
+// Where the calendar is refused, that stands in place of all rows.
+fn without_rows(out: &mut [u8]) -> Waiting
+    requires { ⌜ outputRoom ≤ length (now out) ⌝ }
+    ensures { λ r. ⌜ (r .at ≤ waitingRoom) × (take (r .at) (now (out .exit)) ≡ noCalendar) × (r .intact ≡ true) ⌝ }
+{
+    let end = lines::no_calendar(out);
+    Waiting {
+        at: end,
+        intact: true,
+    }
+}
+
+// The rows are replayed with the calendar of its file; or none is, where that is refused.
+fn with_calendar(out: &mut [u8]) -> Waiting
+    requires { ⌜ outputRoom ≤ length (now out) ⌝ }
+    ensures { λ r. ⌜ (r .at ≤ waitingRoom) × Ran (now (out .exit)) r ⌝ }
+{
+    let read = calendar_file::load();
+    let numbers = read.numbers;
+    let reading = read.reading;
+    match reading {
+        Reading::Dates(n) => with_input(&numbers[..n], out),
+        Reading::NoCalendar => without_rows(out),
+    }
 }
 
 fn main() {
     let mut text = io::large_buffer();
     let out: &mut [u8] = &mut text;
-    let waiting = with_input(out);
+    let waiting = with_calendar(out);
     finish(out, waiting);
 }

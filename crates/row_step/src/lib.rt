@@ -14,6 +14,8 @@ ghost use Rattle.choice.specs.Choice.{choose};
 ghost use Rattle.decimal.specs.Put.{Put};
 ghost use Rattle.book.specs.Good.{Good};
 ghost use Rattle.report.specs.Report.{isSession, answerOf, reportOf, rowRoom};
+ghost use Rattle.calendar.specs.Days.{datesOf};
+ghost use Rattle.rows.specs.Row.{rowOf};
 ghost use Rattle.stream.specs.Parts.{EventPut, RowPut};
 
 // The lines of an event: all of its report where it is a session, and its answer where it is not.
@@ -54,15 +56,15 @@ fn event_row(out: &mut [u8], at: usize, intact: bool, row: u64, book: Book, even
 }
 
 // One row: its event is carried out or refused, and its lines are put behind what waits.
-pub fn answer_row(bytes: &[u8], out: &mut [u8], replay: Replay) -> Replay
+pub fn answer_row(calendar: &[u64], bytes: &[u8], out: &mut [u8], replay: Replay) -> Replay
     requires { ⌜ (Good (replay .book)) × (replay .at + rowRoom ≤ length (now out)) ⌝ }
-    ensures { λ r. ⌜ RowPut replay (now (out .entry)) (now (bytes .entry)) r (now (out .exit)) ⌝ }
+    ensures { λ r. ⌜ RowPut replay (now (out .entry)) (rowOf (datesOf (now (calendar .entry))) (now (bytes .entry))) r (now (out .exit)) ⌝ }
 {
     let row = std::num::wrapping_add_u64(replay.row, 1);
     let book = replay.book;
     let at = replay.at;
     let intact = replay.intact;
-    match row_reader::read_row(bytes) {
+    match row_reader::read_row(calendar, bytes) {
         Row::Refused(why) => {
             let next = lines::answer(out, at, row, Found::Nothing, answers::number::of_row(why));
             Replay {

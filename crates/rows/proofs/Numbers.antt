@@ -29,4 +29,6 @@ refusal-table =
       date = refl;
       strike-text = refl;
       row = refl;
+      calendar = refl;
+      no-trading-date = refl;
     }

@@ -7,14 +7,21 @@ use stream::types::Replay;
 use stream::types::SeriesRow;
 ghost use Prim.Native.Nat.{_≤_};
 ghost use lib.ListN.{length};
+ghost use Rattle.calendar.specs.Days.{datesOf};
 ghost use Rattle.stream.specs.Output.{Ready};
 ghost use Rattle.stream.specs.Parts.{FirstPassed};
 
 // From a place of a buffer on, the rows that are events on one series, up to the first other row. The book stays where it is: each
 // row changes one series of it, and the blotter.
-pub fn series_rows(input: &[u8], start: usize, out: &mut [u8], replay: Replay) -> Passed
+pub fn series_rows(
+    calendar: &[u64],
+    input: &[u8],
+    start: usize,
+    out: &mut [u8],
+    replay: Replay,
+) -> Passed
     requires { ⌜ (Ready replay (now out)) × (start ≤ length (now input)) ⌝ }
-    ensures { λ r. ⌜ FirstPassed (now (input .entry)) start replay (now (out .entry)) r (now (out .exit)) ⌝ }
+    ensures { λ r. ⌜ FirstPassed (datesOf (now (calendar .entry))) (now (input .entry)) start replay (now (out .entry)) r (now (out .exit)) ⌝ }
 {
     let mut book = replay.book;
     let mut row = replay.row;
@@ -26,7 +33,7 @@ pub fn series_rows(input: &[u8], start: usize, out: &mut [u8], replay: Replay) -
             series,
             event,
             next,
-        } = series_row::series_row(input, from)
+        } = series_row::series_row(calendar, input, from)
         else {
             return up_to(book, row, at, intact, from);
         };

@@ -12,6 +12,7 @@ use Rattle.choice.proofs.Chain.{hit, past}
 use Rattle.terms.specs.Bounds.{seriesRoom}
 use Rattle.book.specs.Effects.{seriesOf}
 use Rattle.book.specs.declared.state.Event.{Event}
+use Rattle.contract.specs.declared.types.Date.{Date}
 use Rattle.rows.specs.Cut.{cut, endFrom}
 use Rattle.rows.specs.Field.{onEnd}
 use Rattle.rows.specs.Row.{rowOf}
@@ -43,9 +44,9 @@ module _ (r row : Row) (y : SeriesRow) (next : ℕ) (p : r ≡ row) where
 
 -- ---- what is found
 -- a row that ends in the buffer and says an event on this series, and where the row after it starts
-pub record Found (s : List ℕ) (from i : ℕ) (e : Event) (next : ℕ) : Type 0 where
+pub record Found (calendar : List Date) (s : List ℕ) (from i : ℕ) (e : Event) (next : ℕ) : Type 0 where
   pub row : List ℕ
-  pub says : rowOf row ≡ Accepted e
+  pub says : rowOf calendar row ≡ Accepted e
   pub first : cut (drop from s) ≡ rowBefore row (cut (drop next s))
   pub later : from < next
   pub within : next ≤ length s
@@ -55,13 +56,14 @@ pub record Found (s : List ℕ) (from i : ℕ) (e : Event) (next : ℕ) : Type 0
 other-no : {i next : ℕ} {e : Event} → Other ≡ OnSeries i e next → ⊥
 other-no f = let z : _≡_ {A = ℕ} 0 1 = cc in omega arith
 
-pub found : (s : List ℕ) (from : ℕ) {r : SeriesRow} → r ≡ seriesRowAt s from → (i : ℕ) (e : Event) (next : ℕ) → r ≡ OnSeries i e next → Found s from i e next
+pub found : (calendar : List Date) (s : List ℕ) (from : ℕ) {r : SeriesRow} → r ≡ seriesRowAt calendar s from → (i : ℕ) (e : Event) (next : ℕ) → r ≡ OnSeries i e next
+    → Found calendar s from i e next
 unfolding seriesRowAt seriesRow onEnd choose
-found s from p i e next q = by-end (endFrom s from) refl (sym p ∙ q)
+found calendar s from p i e next q = by-end (endFrom s from) refl (sym p ∙ q)
   where
     by-test : (end : ℕ) (event : Event) (t : Bool) → leb seriesRoom (seriesOf event) ≡ t → endFrom s from ≡ At end
-        → rowOf (take (end - from) (drop from s)) ≡ Accepted event
-        → choose t Other (OnSeries (seriesOf event) event (end + 2)) ≡ OnSeries i e next → Found s from i e next
+        → rowOf calendar (take (end - from) (drop from s)) ≡ Accepted event
+        → choose t Other (OnSeries (seriesOf event) event (end + 2)) ≡ OnSeries i e next → Found calendar s from i e next
     by-test end event true h a b f = absurd (other-no f)
     by-test end event false h a b f =
         let x : seriesOf event ≡ i = cc in
@@ -78,12 +80,12 @@ found s from p i e next q = by-end (endFrom s from) refl (sym p ∙ q)
           room = rw (← x) (leb-false seriesRoom (seriesOf event) h);
         }
 
-    by-row : (end : ℕ) (row : Row) → endFrom s from ≡ At end → rowOf (take (end - from) (drop from s)) ≡ row
-        → seriesRow row (end + 2) ≡ OnSeries i e next → Found s from i e next
+    by-row : (end : ℕ) (row : Row) → endFrom s from ≡ At end → rowOf calendar (take (end - from) (drop from s)) ≡ row
+        → seriesRow row (end + 2) ≡ OnSeries i e next → Found calendar s from i e next
     by-row end (Accepted event) a b f = by-test end event (leb seriesRoom (seriesOf event)) refl a b f
     by-row end (Refused why) a b f = absurd (other-no f)
 
     by-end : (x : End) → endFrom s from ≡ x
-        → onEnd x Other (λ (end : ℕ). seriesRow (rowOf (take (end - from) (drop from s))) (end + 2)) ≡ OnSeries i e next → Found s from i e next
-    by-end (At end) a f = by-row end (rowOf (take (end - from) (drop from s))) a refl f
+        → onEnd x Other (λ (end : ℕ). seriesRow (rowOf calendar (take (end - from) (drop from s))) (end + 2)) ≡ OnSeries i e next → Found calendar s from i e next
+    by-end (At end) a f = by-row end (rowOf calendar (take (end - from) (drop from s))) a refl f
     by-end NoEnd a f = absurd (other-no f)

@@ -8,11 +8,12 @@ use Rattle.book.specs.Good.{Good}
 use Rattle.book.specs.Step.{stepOf}
 use Rattle.book.specs.declared.state.Book.{Book}
 use Rattle.book.specs.declared.state.Event.{Event}
+use Rattle.contract.specs.declared.types.Date.{Date}
 use Rattle.decimal.specs.Put.{Put}
 use Rattle.report.specs.Report.{reportOf, rowRoom}
 use Rattle.rows.specs.Cut.{cut}
-use Rattle.rows.specs.Row.{rowOf}
-use Rattle.stream.specs.Rows.{bookBy, linesBy}
+use Rattle.rows.specs.declared.types.Row.{Row}
+use Rattle.stream.specs.Rows.{readRows, bookBy, linesBy}
 use Rattle.stream.specs.Output.{waitingRoom, waitsOn, letGo, Intact, Ready, Answered, AnsweredUpTo}
 use Rattle.stream.specs.declared.types.Passed.{Passed}
 use Rattle.stream.specs.declared.types.Replay.{Replay}
@@ -33,25 +34,25 @@ pub record EventPut (n : ℕ) (b : Book) (event : Event) (unbroken : Bool) (befo
   pub room : to .at ≤ place + rowRoom
   pub intact : to .intact ≡ unbroken
 
--- The bytes of a row are answered: the book after it is good, it is counted, and its lines are put behind what waits.
-pub record RowPut (from : Replay) (before row : List ℕ) (to : Replay) (after : List ℕ) : Type 0 where
+-- A row is answered: the book after it is good, it is counted, and its lines are put behind what waits.
+pub record RowPut (from : Replay) (before : List ℕ) (row : Row) (to : Replay) (after : List ℕ) : Type 0 where
   pub good : Good (to .book)
-  pub book : to .book ≡ bookBy (from .book) (rowOf row)
+  pub book : to .book ≡ bookBy (from .book) row
   pub number : to .row ≡ (from .row + 1) % 2 ^ 64
-  pub lines : Put before (from .at) (linesBy (to .row) (from .book) (rowOf row)) after (to .at)
+  pub lines : Put before (from .at) (linesBy (to .row) (from .book) row) after (to .at)
   pub room : to .at ≤ from .at + rowRoom
   pub intact : to .intact ≡ from .intact
 
 -- From a place of a buffer of input on, the first rows are answered, up to the place where the others start.
-pub record FirstPassed (input : List ℕ) (start : ℕ) (from : Replay) (before : List ℕ) (to : Passed) (after : List ℕ) : Type 0 where
-  pub answered : AnsweredUpTo from before (cut (drop start input)) (to .replay) after (cut (drop (to .from) input))
+pub record FirstPassed (calendar : List Date) (input : List ℕ) (start : ℕ) (from : Replay) (before : List ℕ) (to : Passed) (after : List ℕ) : Type 0 where
+  pub answered : AnsweredUpTo calendar from before (cut (drop start input)) (to .replay) after (cut (drop (to .from) input))
   pub later : start ≤ to .from
   pub within : to .from ≤ length input
   pub ready : Ready (to .replay) after
 
 -- All rows that end in a buffer of input are answered, up to the place where the unfinished one starts.
-pub record AllPassed (input : List ℕ) (from : Replay) (before : List ℕ) (to : Passed) (after : List ℕ) : Type 0 where
-  pub answered : Answered from before (cut input .rows) (to .replay) after
+pub record AllPassed (calendar : List Date) (input : List ℕ) (from : Replay) (before : List ℕ) (to : Passed) (after : List ℕ) : Type 0 where
+  pub answered : Answered from before (readRows calendar (cut input .rows)) (to .replay) after
   pub none : cut (drop (to .from) input) .rows ≡ []
   pub unfinished : drop (to .from) input ≡ cut input .rest
   pub within : to .from ≤ length input

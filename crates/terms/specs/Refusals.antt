@@ -80,3 +80,11 @@ strikeText = 19
 -- row: not one of the rows below
 abbrev pub row : ℕ
 row = 20
+
+-- calendar: the trading calendar isn't strictly rising, is too long or holds what is no date; printed as row 0 in place of all rows
+abbrev pub calendar : ℕ
+calendar = 21
+
+-- no trading date: in a row that ends after R the code's date isn't in the calendar; directly after 19
+abbrev pub noTradingDate : ℕ
+noTradingDate = 22

@@ -38,3 +38,7 @@ pub const DATE: u64 = 18;
 pub const STRIKE_TEXT: u64 = 19;
 
 pub const ROW: u64 = 20;
+
+pub const CALENDAR: u64 = 21;
+
+pub const NO_TRADING_DATE: u64 = 22;

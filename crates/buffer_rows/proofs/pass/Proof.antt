@@ -12,7 +12,7 @@ slice-reshare-prefix-whole-rows : tie.Need-slice-reshare-prefix-whole-rows
 slice-reshare-prefix-whole-rows c = search needs
 
 slice-aggregate-whole-rows : tie.Need-slice-aggregate-whole-rows
-slice-aggregate-whole-rows c = sym (length-take-le _ _ (c .before .before .before .pre .1))
+slice-aggregate-whole-rows c = sym (length-take-le _ _ (c .before .before .before .before .pre .1))
 
 whole-rows-requires : tie.Need-whole-rows-requires
 whole-rows-requires c κs = search needs

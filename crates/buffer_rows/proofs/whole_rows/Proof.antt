@@ -5,6 +5,7 @@ use mathlib.Core.Path.{_≡_, refl, sym, ap, _∙_}
 use native.Mathlib.Omega.{arith}
 use mathlib.Core.List.{List}
 use lib.ListN.{length, drop, length-drop}
+use Rattle.calendar.specs.Days.{datesOf}
 use Rattle.rows.specs.Cut.{Cut}
 use Rattle.rows.proofs.Ends.{end-fits, no-row}
 use Rattle.stream.specs.Parts.{FirstPassed}
@@ -14,11 +15,11 @@ use Rattle.buffer_rows.proofs.whole_rows.Tie as tie
 
 -- ---- what the loop keeps: the rows up to a place are answered
 abbrev Inv-loop : tie.InvT-loop
-Inv-loop input out₀ now₀ from₀ out now from =
-    (length out ≡ length out₀) × FirstPassed input 0 now₀ out₀ (record { replay = now; from = from }) out
+Inv-loop calendar input out₀ now₀ from₀ out now from =
+    (length out ≡ length out₀) × FirstPassed (datesOf calendar) input 0 now₀ out₀ (record { replay = now; from = from }) out
 
 abbrev μ-loop : tie.MeasureT-loop
-μ-loop input out₀ now₀ from₀ out now from = length input - from
+μ-loop calendar input out₀ now₀ from₀ out now from = length input - from
 
 -- ---- a row that was found, past the rows on one series
 module _ (c : tie.After-known-told Inv-loop μ-loop) where
@@ -29,7 +30,7 @@ module _ (c : tie.After-known-told Inv-loop μ-loop) where
   top = some .before .before
 
   abbrev input : List ℕ
-  input = top .before .before .before .args .input .now
+  input = top .before .before .before .before .args .input .now
 
   -- where it ends
   ends : (some .series-rows .result .from ≤ c .before .end .given .0 .0) × (c .before .end .given .0 .0 + 2 ≤ length input)
@@ -45,8 +46,8 @@ row-of c = c .before .before .before .before .before .before .before .before .be
 -- ---- the loop begins, and ends where no more row does
 loop-holds : tie.Need-loop-holds Inv-loop μ-loop
 loop-holds c =
-    let s = c .before .before in
-    (refl, record { answered = up-to-none (s .args .replay) (s .args .out .now) _; later = omega arith; within = omega arith; ready = s .pre })
+    let s = c .before .before .before in
+    (refl, record { answered = up-to-none _ (s .args .replay) (s .args .out .now) _; later = omega arith; within = omega arith; ready = s .pre })
 
 series-rows-requires : tie.Need-series-rows-requires Inv-loop μ-loop
 series-rows-requires c κs =
@@ -74,7 +75,7 @@ returns c =
     let r = s .series-rows in
     let e = c .before .before .row-end .ensures in
     let q = c .enum-told .given .1 in
-    let buffer = l .before .before .before .args .input .now in
+    let buffer = l .before .before .before .before .args .input .now in
     let all = all-answered buffer (r .result .from) e (up-to-more (l .loop .inv .1 .answered) (r .ensures .answered)) q in
     record {
       answered = all .1;
@@ -108,7 +109,7 @@ flushed-requires c κs =
 add-from : tie.Need-add-from Inv-loop μ-loop
 add-from c =
     let k = row-of c in
-    omega (arith, ends k .1, top k .before .before .before .good .0 .0)
+    omega (arith, ends k .1, top k .before .before .before .before .good .1 .0)
 
 loop-less : tie.Need-loop-less Inv-loop μ-loop
 loop-less c =

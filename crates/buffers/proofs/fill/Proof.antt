@@ -50,8 +50,8 @@ returns-2 c =
     let s = c .before .before .before .before .before .before .before .before .before .before in
     (omega (arith, s .pre), take-put (s .args .have) (length (s .args .buf .now) - s .args .have) (s .args .buf .now) (c .before .before .before .before .before .before .before .read .last .1 .0) (omega (arith, s .pre)))
 
-add-t6 : tie.Need-add-t6
-add-t6 c = search needs
+add-t7 : tie.Need-add-t7
+add-t7 c = search needs
 
 same-length-3 : tie.Need-same-length-3
 same-length-3 c = search needs
@@ -78,6 +78,6 @@ fill-spec =
     count-requires
     same-length-2
     returns-2
-    add-t6
+    add-t7
     same-length-3
     returns-3)

@@ -14,6 +14,9 @@ enum-known-refusal c = search needs
 enum-known-terms : tie.Need-enum-known-terms
 enum-known-terms c = search needs
 
+list-event-requires : tie.Need-list-event-requires
+list-event-requires c κs = search needs
+
 returns : tie.Need-returns
 unfolding listing
 returns c = search (code-terms, code-refused)
@@ -24,4 +27,11 @@ returns-2 c = search (code-terms, code-refused)
 
 pub listing-spec : {M : Type 1} → statement M
 listing-spec =
-    tie.close (tie.spec read-requires enum-known-refusal enum-known-terms returns returns-2)
+    tie.close
+    (tie.spec
+    read-requires
+    enum-known-refusal
+    enum-known-terms
+    list-event-requires
+    returns
+    returns-2)

@@ -12,9 +12,9 @@ use Rattle.replay.proofs.last_row.Tie as tie
 returns : tie.Need-returns
 unfolding rowsBy keptBy goesOn
 returns c =
-    let s = c .before .before .before in
+    let s = c .before .before .before .before in
     record {
-      answered = last-none (s .args .replay) (s .args .out .now) (s .args .buf .now) (s .args .have) (c .if1 .taken);
+      answered = last-none _ (s .args .replay) (s .args .out .now) (s .args .buf .now) (s .args .have) (c .if1 .taken);
       keeps = refl;
       few = omega arith;
       within = omega arith;
@@ -23,7 +23,7 @@ returns c =
     }
 
 slice-aggregate-answer-row : tie.Need-slice-aggregate-answer-row
-slice-aggregate-answer-row c = sym (length-take-le _ _ (c .before .before .before .before .pre .1))
+slice-aggregate-answer-row c = sym (length-take-le _ _ (c .before .before .before .before .before .pre .1))
 
 answer-row-requires : tie.Need-answer-row-requires
 answer-row-requires c κs = search needs
@@ -37,12 +37,12 @@ same-length c = search needs
 returns-2 : tie.Need-returns-2
 unfolding rowsBy keptBy goesOn
 returns-2 c =
-    let s = c .before .before .before .before .before .before .before .before .before .before .before .before in
+    let s = c .before .before .before .before .before .before .before .before .before .before .before .before .before in
     let a = c .before .before .before .before .before .before .answer-row in
     let f = c .before .before .flushed in
     let long = length-take-le (s .args .have) (s .args .buf .now) (s .pre .1) in
     record {
-      answered = last-some (take (s .args .have) (s .args .buf .now)) (omega (arith, long, c .before .before .before .before .before .before .before .before .before .if1 .left))
+      answered = last-some _ (take (s .args .have) (s .args .buf .now)) (omega (arith, long, c .before .before .before .before .before .before .before .before .before .if1 .left))
           (row-answered (s .pre .0) (a .ensures) (f .ensures));
       keeps = refl;
       few = omega arith;

@@ -1,24 +1,15 @@
 -- `replay::turn` meets its contract.
-use mathlib.Core.Path.{_≡_}
-use Prim.Native.Nat.{ℕ, _≤_, _<_}
 use native.Mathlib.Omega.{arith}
-use Rattle.stream.specs.Input.{InRoom, ending, failure}
-use Rattle.stream.specs.declared.types.Input.{Input}
-use Rattle.stream.specs.declared.types.Input.the-variants.{UpTo}
-use Rattle.stream.proofs.Turns.{behind, turned-piece, turned-failure}
+use Rattle.stream.specs.Input.{ending, failure}
+use Rattle.stream.proofs.Turns.{filled-to, behind, turned-piece, turned-failure}
 use borrow.Author.Needs.{needs}
 use Rattle.replay.proofs.turn.Statement.{statement}
 use Rattle.replay.proofs.turn.Tie as tie
 
 -- ---- what is read
--- input that goes up to a place of the buffer
-reached : (have n end : ℕ) (r : Input) → InRoom have n r → r ≡ UpTo end → (have < end) × (end ≤ n)
-unfolding InRoom
-reached have n end r w e = rw e at w
-
 fill-requires : tie.Need-fill-requires
 fill-requires c κs =
-    let s = c .before .before .before .before in
+    let s = c .before .before .before .before .before in
     omega (arith, s .pre .1, s .pre .2)
 
 enum-known-end : tie.Need-enum-known-end
@@ -27,17 +18,17 @@ enum-known-end c = search needs
 -- ---- how it is gone through
 pass-requires : tie.Need-pass-requires
 pass-requires c κs =
-    let s = c .before .before .before .before .before .before .before .before .before .before .before .before in
+    let s = c .before .before .before .before .before .before .before .before .before .before .before .before .before in
     let f = c .before .before .before .before .before .before .before .fill in
-    (s .pre .0, omega (arith, reached _ _ _ _ (f .ensures .0) (c .before .before .before .end .given .1) .1, f .kept .0))
+    (s .pre .0, omega (arith, filled-to _ _ _ _ (f .ensures .0) (c .before .before .before .end .given .1) .1, f .kept .1))
 
 enum-told : tie.Need-enum-told
 enum-told c = search needs
 
 last-row-requires : tie.Need-last-row-requires
 last-row-requires c κs =
-    let s = c .before .before .before .before .before .before .before .before .before .before .before in
-    (s .pre .0, omega (arith, s .pre .1, s .pre .2, c .before .before .before .before .before .before .fill .kept .0))
+    let s = c .before .before .before .before .before .before .before .before .before .before .before .before in
+    (s .pre .0, omega (arith, s .pre .1, s .pre .2, c .before .before .before .before .before .before .fill .kept .1))
 
 enum-told-2 : tie.Need-enum-told-2
 enum-told-2 c = search needs
@@ -54,7 +45,7 @@ returns c =
     let r = c .before .before .before .before .pass in
     let f = c .before .before .before .before .before .before .before .before .before .before .before .before .fill in
     let end = c .before .before .before .before .before .before .before .before .end .given .1 in
-    record { got = _; turned = turned-piece (behind _ _ _ _ (reached _ _ _ _ (f .ensures .0) end .0) (f .ensures .1)) (r .ensures) }
+    record { got = _; turned = turned-piece (behind _ _ _ _ (filled-to _ _ _ _ (f .ensures .0) end .0) (f .ensures .1)) (r .ensures) }
 
 same-length-3 : tie.Need-same-length-3
 same-length-3 c = search needs
@@ -73,7 +64,7 @@ same-length-5 c = search needs
 
 returns-3 : tie.Need-returns-3
 returns-3 c =
-    let s = c .before .before .before .before .before .before .before .before .before in
+    let s = c .before .before .before .before .before .before .before .before .before .before in
     record { got = failure; turned = turned-failure _ _ (s .pre .0) }
 
 -- ---- all of it

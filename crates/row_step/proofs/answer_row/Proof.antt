@@ -34,7 +34,7 @@ same-length c = search needs
 
 returns : tie.Need-returns
 returns c =
-    let s = c .before .before .before .before .before .before .before .before .before .before .before .before .before in
+    let s = c .before .before .before .before .before .before .before .before .before .before .before .before .before .before in
     let b = s .args .replay .book in
     let w = c .before .before .before .before .before .before .before .before .before .before .wrapping-add-u64 in
     let q = sym (c .before .before .before .before .before .before .before .before .read-row .ensures) ∙ c .before .before .before .before .before .before .why .given .1 in

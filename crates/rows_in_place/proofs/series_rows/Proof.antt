@@ -7,6 +7,8 @@ use native.Mathlib.Omega.{arith}
 use mathlib.Core.Bool.{Bool}
 use mathlib.Core.List.{List}
 use lib.ListN.{length}
+use Rattle.contract.specs.declared.types.Date.{Date}
+use Rattle.calendar.specs.Days.{datesOf}
 use Rattle.integer.specs.Bounds.{Bounded}
 use Rattle.terms.specs.Bounds.{blotterRoom, maxPosition}
 use Rattle.book.specs.Effects.{Fits}
@@ -31,12 +33,12 @@ abbrev state : Book → ℕ → ℕ → Bool → Replay
 state book row at intact = record { book = book; row = row; at = at; intact = intact }
 
 abbrev Inv-loop : tie.InvT-loop
-Inv-loop input start out₀ book₀ row₀ at₀ intact₀ from₀ out book row at intact from =
+Inv-loop calendar input start out₀ book₀ row₀ at₀ intact₀ from₀ out book row at intact from =
     (length out ≡ length out₀)
-    × FirstPassed input start (state book₀ row₀ at₀ intact₀) out₀ (record { replay = state book row at intact; from = from }) out
+    × FirstPassed (datesOf calendar) input start (state book₀ row₀ at₀ intact₀) out₀ (record { replay = state book row at intact; from = from }) out
 
 abbrev μ-loop : tie.MeasureT-loop
-μ-loop input start out₀ book₀ row₀ at₀ intact₀ from₀ out book row at intact from = length input - from
+μ-loop calendar input start out₀ book₀ row₀ at₀ intact₀ from₀ out book row at intact from = length input - from
 
 -- ---- a row that was found, and the turn of the loop
 module _ (c : tie.After-known-told Inv-loop μ-loop) where
@@ -46,8 +48,11 @@ module _ (c : tie.After-known-told Inv-loop μ-loop) where
   abbrev good : Good (top .loop .book)
   good = top .loop .inv .1 .ready .good
 
+  abbrev calendar : List Date
+  calendar = datesOf (top .before .before .before .before .before .args .calendar .now)
+
   abbrev input : List ℕ
-  input = top .before .before .before .before .args .input .now
+  input = top .before .before .before .before .before .args .input .now
 
   abbrev series-at : ℕ
   series-at = c .before .series .given .0 .0
@@ -55,8 +60,8 @@ module _ (c : tie.After-known-told Inv-loop μ-loop) where
   abbrev event : Event
   event = c .before .series .given .0 .1 .0
 
-  row : Found input (top .loop .from) series-at event (c .before .series .given .0 .1 .1 .0)
-  row = found _ _ (c .before .before .before .series-row .ensures) _ _ _ (c .before .series .given .1)
+  row : Found calendar input (top .loop .from) series-at event (c .before .series .given .0 .1 .1 .0)
+  row = found _ _ _ (c .before .before .before .series-row .ensures) _ _ _ (c .before .series .given .1)
 
 -- where the effect of its event is known
 abbrev row-at : tie.After-effect Inv-loop μ-loop → tie.After-known-told Inv-loop μ-loop
@@ -74,8 +79,8 @@ record-within c = rw (c .next-record .ensures) (next-record-within _)
 -- ---- the loop begins, and ends at the first other row
 loop-holds : tie.Need-loop-holds Inv-loop μ-loop
 loop-holds c =
-    let s = c .before .before .before in
-    (refl, record { answered = up-to-none (s .args .replay) (s .args .out .now) _; later = omega arith; within = s .pre .1; ready = s .pre .0 })
+    let s = c .before .before .before .before in
+    (refl, record { answered = up-to-none _ (s .args .replay) (s .args .out .now) _; later = omega arith; within = s .pre .1; ready = s .pre .0 })
 
 series-row-requires : tie.Need-series-row-requires Inv-loop μ-loop
 series-row-requires c κs = search needs
@@ -118,8 +123,8 @@ mark-requires : tie.Need-mark-requires Inv-loop μ-loop
 mark-requires c κs = search needs
 
 -- ---- and stored
-mul-t26 : tie.Need-mul-t26 Inv-loop μ-loop
-mul-t26 c = omega (arith, row (row-at (c .before .before .before .before .before .before .before)) .room)
+mul-t27 : tie.Need-mul-t27 Inv-loop μ-loop
+mul-t27 c = omega (arith, row (row-at (c .before .before .before .before .before .before .before)) .room)
 
 element-set-from-book : tie.Need-element-set-from-book Inv-loop μ-loop
 element-set-from-book c = row (row-at (c .before .before .before .before .before .before .before)) .room
@@ -219,7 +224,7 @@ series-rows-spec =
     set-request-requires
     set-decline-requires
     mark-requires
-    mul-t26
+    mul-t27
     element-set-from-book
     next-record-requires
     mul-standing

@@ -12,7 +12,7 @@ use Rattle.series_row.proofs.series_row.Tie as tie
 
 -- where the row that was found ends
 module _ (c : tie.After-known-told) where
-  ends : (c .before .before .before .before .before .args .from ≤ c .before .end .given .0 .0) × (c .before .end .given .0 .0 + 2 ≤ length (c .before .before .before .before .before .args .input .now))
+  ends : (c .before .before .before .before .before .before .args .from ≤ c .before .end .given .0 .0) × (c .before .end .given .0 .0 + 2 ≤ length (c .before .before .before .before .before .before .args .input .now))
   ends = row-fits _ _ _ (c .before .before .before .row-end .ensures) _ (c .before .end .given .1)
 
 row-end-requires : tie.Need-row-end-requires
@@ -57,10 +57,10 @@ returns-3 : tie.Need-returns-3
 unfolding seriesRowAt
 returns-3 c = search (end-found, row-on-none) depth 12
 
-add-t9 : tie.Need-add-t9
-add-t9 c =
+add-t10 : tie.Need-add-t10
+add-t10 c =
     let r = c .before .before .before .before .before .before .before in
-    omega (arith, ends r .1, r .before .before .before .before .before .good .0 .0)
+    omega (arith, ends r .1, r .before .before .before .before .before .before .good .1 .0)
 
 returns-4 : tie.Need-returns-4
 unfolding seriesRowAt
@@ -83,5 +83,5 @@ series-row-spec =
     returns-2
     series-of-requires
     returns-3
-    add-t9
+    add-t10
     returns-4)

@@ -1,0 +1,118 @@
+-- What is promised of the trading calendar (RULES, "Trading calendar").
+use Prim.Native.Nat.{ℕ, zero, suc, _+_, _*_, _/_, _%_, _≤_, _<_}
+use mathlib.Core.Path.{_≡_, refl, sym, ap, _∙_}
+use mathlib.Core.Logic.{_↔_}
+use mathlib.Core.List.{List, [], _∷_}
+use native.Mathlib.Omega.{arith}
+use native.Mathlib.Decide.{decLt}
+use lib.ListN.{length, take}
+use lib.Seq.{length-take-le, take-all}
+use Rattle.contract.specs.Date.{TwoDigitsEach}
+use Rattle.contract.specs.declared.types.Date.{Date}
+use Rattle.calendar.specs.Days.{dayOf, numberOf, Rising, maxDates, TradingDates, dateOf, Stands}
+use Rattle.calendar.specs.Text.{crlf, linesText, Says, ended, unended, maxText, Calendar, trading, broken, calendarOf}
+use Rattle.calendar.specs.declared.types.Day.the-variants.{On, NoDay}
+use Rattle.calendar.proofs.Days.{date-by, placed, day-at, none-at, none-stands, one-place-from}
+use Rattle.calendar.proofs.Lines.{LineEnd, crlf-end, no-end, Told, lines-text, lines-read, lines-length}
+
+-- ---- the day of a date, in every list of dates
+-- The day that a date gets is its place, and the first at which it stands.
+pub day-is-place : (ds : List Date) (d : Date) (i : ℕ) → dayOf ds d ≡ On i → Stands ds i d × ((j : ℕ) → Stands ds j d → i ≤ j)
+day-is-place ds d i e = let p = placed 0 ds d i e in let z : i ≡ p .place = omega (arith, p .day-is) in rw z (p .stands, p .first)
+
+-- So a list of n dates gives days below n.
+stands-within : (ds : List Date) (d : Date) (i : ℕ) → Stands ds i d → i < length ds
+stands-within [] d i s = absurd s
+stands-within (e ∷ es) d zero s = omega arith
+stands-within (e ∷ es) d (suc i) s = omega (arith, stands-within es d i s)
+
+pub day-within : (ds : List Date) (d : Date) (i : ℕ) → dayOf ds d ≡ On i → i < length ds
+day-within ds d i e = stands-within ds d i (day-is-place ds d i e .0)
+
+-- A date gets no day exactly where it isn't in the list.
+pub no-day : (ds : List Date) (d : Date) → (dayOf ds d ≡ NoDay) ↔ ((i : ℕ) → Stands ds i d → ⊥)
+no-day ds d = (none-stands 0 ds d, none-at 0 ds d)
+
+-- No date gets two days.
+pub one-day : (ds : List Date) (d : Date) (i j : ℕ) → dayOf ds d ≡ On i → dayOf ds d ≡ On j → i ≡ j
+one-day ds d i j p q = let z : On i ≡ On j = sym p ∙ q in cc
+
+-- ---- in every list that is strictly rising
+-- No date stands at two places,
+pub one-place : (ds : List Date) → Rising ds → (d : Date) (i j : ℕ) → Stands ds i d → Stands ds j d → i ≡ j
+one-place ds r d i j s t = one-place-from 0 ds d i j r s t
+
+-- and a date in the list gets the day that its place says.
+pub day-of-place : (ds : List Date) → Rising ds → (d : Date) (i : ℕ) → Stands ds i d → dayOf ds d ≡ On i
+day-of-place ds r d i s =
+    let z : 0 + i ≡ i = omega arith in
+    day-at 0 ds d i s (λ m t. omega (arith, one-place ds r d i m s t)) ∙ ap On z
+
+-- ---- reading, of every list of bytes
+told : (text : List ℕ) (ds : List Date) → Says text ds → Told text ds
+told text ds (ended e) = record { end = crlf; is-end = crlf-end refl; says = e }
+told text ds (unended e) = record { end = []; is-end = no-end refl; says = e }
+
+says : (text : List ℕ) (ds : List Date) → Told text ds → Says text ds
+says text ds t = by-end (t .end) (t .is-end) (t .says)
+  where
+    by-end : (end : List ℕ) → LineEnd end → text ≡ linesText end ds → Says text ds
+    by-end end (crlf-end z) e = ended (e ∙ ap (λ (x : List ℕ). linesText x ds) z)
+    by-end end (no-end z) e = unended (e ∙ ap (λ (x : List ℕ). linesText x ds) z)
+
+-- Bytes are read as dates exactly where they are the lines of these dates and the dates are a calendar's.
+pub calendar-read : (text : List ℕ) (ds : List Date) → (calendarOf text ≡ trading ds) ↔ (TradingDates ds × Says text ds)
+unfolding calendarOf
+calendar-read text ds = (
+  λ e.
+      let l = lines-text maxDates text 0 0 ds e in
+      (record { few = l .few; dates = l .dates; rising = l .rising }, says text ds (l .told)),
+  λ p.
+      let t = told text ds (p .1) in
+      lines-read maxDates text 0 0 (t .end) ds (t .is-end) (p .0 .few) (p .0 .dates) (p .0 .rising) (t .says),
+)
+
+-- Else they are no calendar, which is 21.
+pub calendar-refused : (text : List ℕ) → (calendarOf text ≡ broken) ↔ ((ds : List Date) → TradingDates ds → Says text ds → ⊥)
+calendar-refused text = (
+  λ e ds t s.
+      let z : broken ≡ trading ds = sym e ∙ calendar-read text ds .1 (t, s) in
+      let o : _≡_ {A = ℕ} 0 1 = cc in
+      omega arith,
+  λ f.
+      by-case (calendarOf text) refl f,
+)
+  where
+    by-case : (c : Calendar) → calendarOf text ≡ c → ((ds : List Date) → TradingDates ds → Says text ds → ⊥) → c ≡ broken
+    by-case (trading ds) e f = let p = calendar-read text ds .0 e in absurd (f ds (p .0) (p .1))
+    by-case broken e f = refl
+
+-- So in every calendar that is read a date in the list gets the day that its place says.
+pub day-in-calendar : (text : List ℕ) (ds : List Date) → calendarOf text ≡ trading ds → (d : Date) (i : ℕ) → Stands ds i d → dayOf ds d ≡ On i
+day-in-calendar text ds e = day-of-place ds (calendar-read text ds .0 e .0 .rising)
+
+-- More bytes than 1,000 lines can have are no calendar,
+pub too-many-bytes : (text : List ℕ) → maxText < length text → calendarOf text ≡ broken
+too-many-bytes text h =
+    calendar-refused text .1 (λ ds t s.
+    let l = told text ds s in
+    omega (arith, ap length (l .says), lines-length (l .end) ds (l .is-end), t .few))
+
+-- so that the first 8,001 bytes tell what all do.
+pub first-bytes-tell : (text : List ℕ) → calendarOf (take (maxText + 1) text) ≡ calendarOf text
+first-bytes-tell text = by-length (decLt maxText (length text))
+  where
+    by-length : Dec (maxText < length text) → calendarOf (take (maxText + 1) text) ≡ calendarOf text
+    by-length (yes h) =
+        too-many-bytes (take (maxText + 1) text) (omega (arith, length-take-le (maxText + 1) text (omega arith)))
+        ∙ sym (too-many-bytes text h)
+    by-length (no h) = ap calendarOf (take-all (maxText + 1) text (omega arith))
+
+-- ---- dates and their numbers
+-- The number of a date says that date: so every list of dates of two digits each can be lent.
+pub date-of-number : (d : Date) → TwoDigitsEach d → dateOf (numberOf d) ≡ d
+date-of-number d t =
+    date-by (dateOf (numberOf d)) d
+    (omega (arith, t .day, t .month))
+    (omega (arith, t .day, t .month))
+    (omega (arith, t .day, t .month))

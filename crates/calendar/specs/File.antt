@@ -1,0 +1,37 @@
+-- The file of the calendar (RULES, "Trading calendar").
+use Prim.Native.Nat.{ℕ, _≤_}
+use mathlib.Core.Bool.{Bool}
+use mathlib.Core.List.{List, []}
+use Rattle.choice.specs.Choice.{choose}
+use Rattle.calendar.specs.Text.{Calendar, trading, broken, calendarOf, ReadAs}
+use Rattle.calendar.specs.declared.types.CalendarRead.{CalendarRead}
+use Rattle.calendar.specs.declared.types.Contents.{Contents}
+use Rattle.calendar.specs.declared.types.Contents.the-variants.{Bytes, NotRead}
+use Rattle.calendar.specs.declared.types.Opened.{Opened}
+use Rattle.calendar.specs.declared.types.Opened.the-variants.{Missing, Readable, Unreadable}
+
+-- what is found of it: no file, its bytes, or that it is there and can't be read
+pub data File : Type 0 where
+  missing : File
+  holds : List ℕ → File
+  unreadable : File
+
+-- by what an attempt to open it tells: whether it failed, and whether for want of such a file
+unfoldable pub openedBy : Bool → Bool → Opened
+openedBy failed none = choose failed (choose none Missing Unreadable) Readable
+
+-- "No such file: an empty calendar"; 21 "where the file is there and can't be read"
+unfoldable pub calendarBy : File → Calendar
+calendarBy missing = trading []
+calendarBy (holds bytes) = calendarOf bytes
+calendarBy unreadable = broken
+
+-- what is loaded is the calendar of what is found; that this is so in the folder nothing here says
+pub record Loaded (answer : CalendarRead) : Type 0 where
+  pub file : File
+  pub read : ReadAs answer (calendarBy file)
+
+-- bytes that were read stand at the front of a buffer of n bytes
+unfoldable pub InBuffer : ℕ → Contents → Type 0
+InBuffer n (Bytes count) = count ≤ n
+InBuffer n NotRead = Unit {0}

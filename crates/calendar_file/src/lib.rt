@@ -1,0 +1,93 @@
+// The file of the trading calendar, in the folder that the program runs in.
+use buffers::fill;
+use calendar::bounds::MAX_DATES;
+use calendar::bounds::MAX_TEXT;
+use calendar::types::CalendarRead;
+use calendar::types::Contents;
+use calendar::types::Opened;
+use calendar::types::Reading;
+use stream::types::Input;
+ghost use mathlib.Core.Path.{_≡_};
+ghost use lib.ListN.{length, replicate};
+ghost use Rattle.calendar.specs.Days.{maxDates};
+ghost use Rattle.calendar.specs.File.{openedBy, Loaded, InBuffer};
+
+// What an attempt to open it tells: whether it failed, and whether for want of such a file.
+fn opened(failed: bool, missing: bool) -> Opened
+    ensures { λ r. ⌜ r ≡ openedBy failed missing ⌝ }
+{
+    if failed {
+        if missing {
+            return Opened::Missing;
+        }
+        return Opened::Unreadable;
+    }
+    Opened::Readable
+}
+
+// Reads until the file ends or the buffer is full.
+fn contents(fd: i32, buf: &mut [u8]) -> Contents
+    ensures { λ r. ⌜ InBuffer (length (now (buf .entry))) r ⌝ }
+{
+    let mut have = 0;
+    while have < buf.len() {
+        match fill(fd, buf, have) {
+            Input::UpTo(end) => {
+                have = end;
+            }
+            Input::Ended => {
+                return Contents::Bytes(have);
+            }
+            Input::Failed => {
+                return Contents::NotRead;
+            }
+        }
+    }
+    Contents::Bytes(have)
+}
+
+// A calendar without dates, or none.
+fn without_dates(reading: Reading) -> CalendarRead
+    ensures { λ r. ⌜ r ≡ record { numbers = replicate maxDates 0; reading = reading } ⌝ }
+{
+    CalendarRead {
+        numbers: [0; MAX_DATES],
+        reading,
+    }
+}
+
+// The calendar that a file holds, read through a buffer.
+fn read_through(fd: i32, buf: &mut [u8]) -> CalendarRead
+    ensures { λ r. ⌜ Loaded r ⌝ }
+{
+    let Contents::Bytes(n) = contents(fd, buf) else {
+        return without_dates(Reading::NoCalendar);
+    };
+    calendar_reader::read(&buf[..n])
+}
+
+// A byte more than those of the longest calendar is read, and no more.
+fn read_file(fd: i32) -> CalendarRead
+    ensures { λ r. ⌜ Loaded r ⌝ }
+{
+    let mut space = [0; MAX_TEXT + 1];
+    let buf: &mut [u8] = &mut space;
+    read_through(fd, buf)
+}
+
+// The calendar of the file calendar.txt: without dates where there is none, and no calendar where it can't be read.
+pub fn load() -> CalendarRead
+    ensures { λ r. ⌜ Loaded r ⌝ }
+{
+    let fd = os::open_read(b"calendar.txt");
+    let missing = os::errno() == libc::ENOENT;
+    match opened(fd < 0, missing) {
+        Opened::Missing => without_dates(Reading::Dates(0)),
+        Opened::Unreadable => without_dates(Reading::NoCalendar),
+        Opened::Readable => {
+            let read = read_file(fd);
+            libc::close(fd);
+            read
+        }
+    }
+}
