@@ -1,5 +1,7 @@
 //! RULES, "Contract codes": the reader and the writer.
 
+use std::fmt;
+
 use crate::book::{Category, OptionType};
 use crate::refusal::Refusal;
 
@@ -26,21 +28,29 @@ pub enum Style {
     NoBlank,
 }
 
-#[derive(Clone, Copy, Debug, PartialEq, Eq)]
+/// Year, month and day, in this order so that an earlier date is less than a later one. Not all of them exist.
+#[derive(Clone, Copy, Debug, PartialEq, Eq, PartialOrd, Ord)]
 pub struct Date {
-    pub day: u64,
-    pub month: u64,
     /// 0 to 99 for 2000 to 2099.
     pub year: u64,
+    pub month: u64,
+    pub day: u64,
 }
 
 impl Date {
+    /// Reads DDMMYY; any six digits will do.
+    pub fn read(digits: &[u8; 6]) -> Option<Self> {
+        let [d1, d2, m1, m2, y1, y2] = *digits;
+        Some(Date { year: two_digits(y1, y2)?, month: two_digits(m1, m2)?, day: two_digits(d1, d2)? })
+    }
+
     /// Whether two digits hold each of its numbers.
     fn has_a_layout(self) -> bool {
         [self.day, self.month, self.year].iter().all(|&number| number <= 99)
     }
 
-    fn is_in_the_calendar(self) -> bool {
+    /// Whether there is such a day, from 2000 to 2099.
+    pub fn exists(self) -> bool {
         let days = match self.month {
             1 | 3 | 5 | 7 | 8 | 10 | 12 => 31,
             4 | 6 | 9 | 11 => 30,
@@ -50,6 +60,13 @@ impl Date {
             _ => return false,
         };
         (1..=days).contains(&self.day)
+    }
+}
+
+/// DDMMYY.
+impl fmt::Display for Date {
+    fn fmt(&self, formatter: &mut fmt::Formatter) -> fmt::Result {
+        write!(formatter, "{:02}{:02}{:02}", self.day, self.month, self.year)
     }
 }
 
@@ -70,7 +87,7 @@ pub fn write(terms: &Terms) -> Result<String, Refusal> {
         return Err(Refusal::Code);
     }
     check(terms)?;
-    let Date { day, month, year } = terms.date;
+    let date = terms.date;
     let option = match terms.option {
         OptionType::Call => 'C',
         OptionType::Put => 'P',
@@ -84,11 +101,11 @@ pub fn write(terms: &Terms) -> Result<String, Refusal> {
         Style::NoBlank => "",
     };
     let strike = strike_text(terms.strike);
-    Ok(format!("{futures_code}M{day:02}{month:02}{year:02}{option}{category}{blank}{strike}"))
+    Ok(format!("{futures_code}M{date}{option}{category}{blank}{strike}"))
 }
 
 fn check(terms: &Terms) -> Result<(), Refusal> {
-    if !terms.date.is_in_the_calendar() {
+    if !terms.date.exists() {
         return Err(Refusal::Date);
     }
     if !(1..=LARGEST_STRIKE).contains(&terms.strike) {
@@ -103,7 +120,7 @@ fn layout(code: &[u8]) -> Option<Terms<'_>> {
     let [b'M', d1, d2, m1, m2, y1, y2, option, category, rest @ ..] = rest else {
         return None;
     };
-    let date = Date { day: two_digits(*d1, *d2)?, month: two_digits(*m1, *m2)?, year: two_digits(*y1, *y2)? };
+    let date = Date::read(&[*d1, *d2, *m1, *m2, *y1, *y2])?;
     let option = match option {
         b'C' => OptionType::Call,
         b'P' => OptionType::Put,

@@ -4,6 +4,7 @@
 //! and a speed to be measured against. Comments name the section of docs/RULES.md that a piece of code follows.
 
 pub mod book;
+pub mod calendar;
 pub mod code_lines;
 pub mod codes;
 pub mod load;
@@ -17,15 +18,24 @@ pub mod value;
 use std::io::{self, Read, Write};
 
 use book::Book;
+use calendar::Calendar;
+use refusal::Refusal;
 use rows::Rows;
 
 /// Output is handed on in pieces of about this size.
 const PIECE: usize = 1 << 16;
 
-/// Runs the rows of `input` through an empty book and writes the lines of their answers to `output`.
-///
+/// Runs the rows of `input` through an empty book and writes the lines of their answers to `output`. A calendar that is
+/// refused has its line in place of theirs, and no row is read.
+pub fn replay(file: &calendar::File, input: impl Read, output: impl Write) -> io::Result<()> {
+    match file.calendar() {
+        Ok(calendar) => replay_rows(&calendar, input, output),
+        Err(refusal) => refuse_calendar(refusal, output),
+    }
+}
+
 /// A read error ends the run after the rows that were read.
-pub fn replay(input: impl Read, mut output: impl Write) -> io::Result<()> {
+fn replay_rows(calendar: &Calendar, input: impl Read, mut output: impl Write) -> io::Result<()> {
     let mut rows = Rows::new(input);
     let mut book = Book::new();
     let mut lines = Vec::with_capacity(2 * PIECE);
@@ -35,7 +45,7 @@ pub fn replay(input: impl Read, mut output: impl Write) -> io::Result<()> {
         match rows.next_row() {
             Ok(Some(row)) => {
                 number += 1;
-                let answer = rows::read(row).and_then(|event| book.apply(event));
+                let answer = rows::read(row, calendar).and_then(|event| book.apply(event));
                 output::write_lines(&mut lines, number, &answer);
             }
             Ok(None) => break Ok(()),
@@ -49,6 +59,13 @@ pub fn replay(input: impl Read, mut output: impl Write) -> io::Result<()> {
     output.write_all(&lines)?;
     output.flush()?;
     end
+}
+
+fn refuse_calendar(refusal: Refusal, mut output: impl Write) -> io::Result<()> {
+    let mut lines = output::HEADER.to_vec();
+    output::write_lines(&mut lines, 0, &Err(refusal));
+    output.write_all(&lines)?;
+    output.flush()
 }
 
 /// The markets that the gate compares.

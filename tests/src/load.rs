@@ -3,6 +3,7 @@
 use std::io::{self, Write};
 
 use crate::book::{Book, Category, ACCOUNTS, LAST_DAY, POSITION_LIMIT, QUANTITY, SERIES, TRADES_A_DAY};
+use crate::calendar::Calendar;
 use crate::random::Random;
 use crate::rows;
 
@@ -93,7 +94,7 @@ impl<W: Write> Load<W> {
     }
 
     fn row(&mut self, row: &str) -> io::Result<()> {
-        let answer = rows::read(row.as_bytes()).and_then(|event| self.book.apply(event));
+        let answer = rows::read(row.as_bytes(), &Calendar::default()).and_then(|event| self.book.apply(event));
         assert!(answer.is_ok(), "{row}: {answer:?}");
         self.output.write_all(row.as_bytes())?;
         self.output.write_all(b"\r\n")

@@ -6,6 +6,7 @@ mod damage;
 mod noise;
 
 use crate::book::{Book, ACCOUNTS, LAST_DAY, POSITION_LIMIT, SERIES};
+use crate::calendar::Calendar;
 use crate::random::Random;
 use crate::rows;
 
@@ -520,7 +521,7 @@ impl Market {
     fn push(&mut self, row: &[u8]) {
         self.bytes.extend_from_slice(row);
         self.bytes.extend_from_slice(b"\r\n");
-        if let Ok(event) = rows::read(row) {
+        if let Ok(event) = rows::read(row, &Calendar::default()) {
             let _ = self.book.apply(event);
         }
     }

@@ -23,6 +23,8 @@ pub enum Refusal {
     Date,
     StrikeText,
     Row,
+    Calendar,
+    NoTradingDate,
 }
 
 impl Refusal {
@@ -49,6 +51,8 @@ impl Refusal {
             Refusal::Date => 18,
             Refusal::StrikeText => 19,
             Refusal::Row => 20,
+            Refusal::Calendar => 21,
+            Refusal::NoTradingDate => 22,
         }
     }
 }

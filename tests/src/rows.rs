@@ -3,6 +3,7 @@
 use std::io::{self, ErrorKind, Read};
 
 use crate::book::Event;
+use crate::calendar::Calendar;
 use crate::codes;
 use crate::refusal::Refusal;
 
@@ -75,8 +76,9 @@ fn find_crlf(bytes: &[u8]) -> Option<usize> {
     bytes.windows(2).position(|pair| pair == b"\r\n")
 }
 
-/// Reads one row. Letter, fields and digits are tested first (20), then the code (17, 18, 19).
-pub fn read(row: &[u8]) -> Result<Event, Refusal> {
+/// Reads one row. Letter, fields and digits are tested first (20), then the code (17, 18, 19), then whether its date has
+/// the day that the row leaves to the calendar (22).
+pub fn read(row: &[u8], calendar: &Calendar) -> Result<Event, Refusal> {
     if row.len() > LONGEST_ROW {
         return Err(Refusal::Row);
     }
@@ -85,26 +87,37 @@ pub fn read(row: &[u8]) -> Result<Event, Refusal> {
         [b'M', b',', rest @ ..] => mark(rest).ok_or(Refusal::Row),
         [b'X', b',', rest @ ..] => exercise(rest).ok_or(Refusal::Row),
         [b'D', b',', rest @ ..] => decline(rest).ok_or(Refusal::Row),
-        [b'L', b',', rest @ ..] => list(rest),
+        [b'L', b',', rest @ ..] => list(rest, calendar),
         b"I" => Ok(Event::Intraday),
         b"V" => Ok(Event::Evening),
         _ => Err(Refusal::Row),
     }
 }
 
-fn list(rest: &[u8]) -> Result<Event, Refusal> {
+fn list(rest: &[u8], calendar: &Calendar) -> Result<Event, Refusal> {
     let (code, tick, last_day) = list_fields(rest).ok_or(Refusal::Row)?;
     let terms = codes::read(code)?;
+    let last_day = match last_day {
+        Some(day) => day,
+        None => calendar.day(terms.date).ok_or(Refusal::NoTradingDate)?,
+    };
     Ok(Event::List { option: terms.option, category: terms.category, strike: terms.strike, tick, last_day })
 }
 
-fn list_fields(rest: &[u8]) -> Option<(&[u8], u64, u64)> {
-    let [code, tick, last_day] = fields(rest)?;
+/// Code, R and last day; a row may end after R.
+fn list_fields(rest: &[u8]) -> Option<(&[u8], u64, Option<u64>)> {
+    let (code, tick, last_day) = match fields(rest) {
+        Some([code, tick, last_day]) => (code, tick, Some(number(last_day)?)),
+        None => {
+            let [code, tick] = fields(rest)?;
+            (code, tick, None)
+        }
+    };
     // Rows are unquoted: a double quote belongs to no field.
     if code.contains(&b'"') {
         return None;
     }
-    Some((code, number(tick)?, number(last_day)?))
+    Some((code, number(tick)?, last_day))
 }
 
 fn trade(rest: &[u8]) -> Option<Event> {
@@ -172,6 +185,11 @@ fn byte(field: &[u8]) -> Option<u8> {
 mod tests {
     use super::*;
     use crate::book::{Category, OptionType};
+
+    /// Reads a row where there is no calendar.
+    fn read(row: &[u8]) -> Result<Event, Refusal> {
+        super::read(row, &Calendar::default())
+    }
 
     fn refusal(row: &[u8]) -> u64 {
         read(row).expect_err(&String::from_utf8_lossy(row)).number()
@@ -253,7 +271,8 @@ mod tests {
             "M,0,1,2",
             "M,0,1,2,3,4",
             "L,GAZR-3.23M150323CA17000",
-            "L,GAZR-3.23M150323CA17000,100",
+            "L,GAZR-3.23M150323CA17000,",
+            "L,GAZR-3.23M150323CA17000,100,",
             "L,GAZR-3.23M150323CA17000,100,1,",
             "L,GAZR-3.23M150323CA17000,,1",
             "L,GAZR-3.23M150323CA17000,100,01",
@@ -303,6 +322,62 @@ mod tests {
         }
     }
 
+    fn last_day(row: &[u8], calendar: &Calendar) -> u64 {
+        match super::read(row, calendar) {
+            Ok(Event::List { last_day, .. }) => last_day,
+            other => panic!("{}: {other:?}", String::from_utf8_lossy(row)),
+        }
+    }
+
+    #[test]
+    fn a_listing_that_ends_after_its_tick() {
+        let calendar = Calendar::read(b"140323\r\n150323\r\n150324").unwrap();
+        for (date, day) in [("140323", 0), ("150323", 1), ("150324", 2)] {
+            for blank in ["", " "] {
+                let row = format!("L,GAZR-3.23M{date}PE{blank}17000,100");
+                assert_eq!(last_day(row.as_bytes(), &calendar), day);
+                let given = format!("{row},{day}");
+                assert_eq!(super::read(row.as_bytes(), &calendar), super::read(given.as_bytes(), &Calendar::default()));
+                assert_eq!(refusal(row.as_bytes()), 22);
+                assert_eq!(super::read(format!("{row},").as_bytes(), &calendar), Err(Refusal::Row));
+            }
+        }
+        for date in ["130323", "160323", "150325", "150322", "150423", "140324", "010100", "311299"] {
+            let row = format!("L,GAZR-3.23M{date}PE17000,100");
+            assert_eq!(super::read(row.as_bytes(), &calendar), Err(Refusal::NoTradingDate), "{date}");
+        }
+    }
+
+    #[test]
+    fn a_day_that_is_given_is_taken_whatever_the_calendar_says() {
+        let calendar = Calendar::read(b"140323\r\n150323\r\n").unwrap();
+        for day in [0, 1, 2, 999, 1_000] {
+            assert_eq!(last_day(format!("L,GAZR-3.23M150323CA17000,100,{day}").as_bytes(), &calendar), day);
+            assert_eq!(last_day(format!("L,GAZR-3.23M160323CA17000,100,{day}").as_bytes(), &calendar), day);
+        }
+    }
+
+    #[test]
+    fn row_and_code_come_before_the_date() {
+        for (row, number) in [
+            ("L,GAZR-3.23M150323CA17000", 20),
+            ("L,GAZR-3.23M150323CA17000,", 20),
+            ("L,GAZR-3.23M150323CA17000,0100", 20),
+            ("L,GAZR-3.23M150323CA17000,100,", 20),
+            ("L,GAZR-3.23M150323CA17000,100 ", 20),
+            ("L,\"GAZR-3.23M150323CA17000\",100", 20),
+            ("L,GAZR-3.23M150323CA01,100", 17),
+            ("L,,100", 17),
+            ("L,GAZR-3.23M310223CA0,100", 18),
+            ("L,GAZR-3.23M150323CA0,100", 19),
+            ("L,GAZR-3.23M150323CA17000,0", 22),
+            ("L,GAZR-3.23M150323CA17000,10001", 22),
+            ("L,GAZR-3.23M150323CA17000,100", 22),
+        ] {
+            assert_eq!(refusal(row.as_bytes()), number, "{row:?}");
+        }
+    }
+
     #[test]
     fn eighteen_digits_and_no_more() {
         let exercise = |digits: &str| read(format!("X,0,0,{digits}").as_bytes());
@@ -323,15 +398,16 @@ mod tests {
 
     #[test]
     fn a_row_of_the_most_bytes_and_one_more() {
-        let list = |front: &str, length: usize| {
-            let back = ",100,1";
+        let list = |front: &str, back: &str, length: usize| {
             let row = format!("{front}{}{back}", "9".repeat(length - front.len() - back.len()));
             assert_eq!(row.len(), length);
             refusal(row.as_bytes())
         };
         for front in ["L,GAZR-3.23M150323CA", "L,GAZR-3.23M150323CA "] {
-            assert_eq!(list(front, 256), 19);
-            assert_eq!(list(front, 257), 20);
+            for back in [",100,1", ",100"] {
+                assert_eq!(list(front, back, 256), 19);
+                assert_eq!(list(front, back, 257), 20);
+            }
         }
     }
 

@@ -3,6 +3,7 @@
 use std::collections::BTreeMap;
 
 use second::book::{Book, Category, Done, Event, OptionType, LAST_DAY, POSITION_LIMIT};
+use second::calendar::Calendar;
 use second::codes::{self, Style, Terms};
 use second::market::market;
 use second::refusal::Refusal;
@@ -56,7 +57,7 @@ impl Census {
         while let Some(row) = rows.next_row().unwrap() {
             self.rows += 1;
             self.take_bytes(row);
-            let event = rows::read(row);
+            let event = rows::read(row, &Calendar::default());
             if let Ok(event) = event {
                 self.take_event(&book, &event);
             }
@@ -78,7 +79,10 @@ impl Census {
         for length in [256, 257, 300, 10_000] {
             self.count_if(row.len() == length, &format!("row of {length} bytes"));
         }
-        self.count_if(row.len() == 256 && rows::read(row) == Err(Refusal::StrikeText), "row of 256 bytes that is read");
+        self.count_if(
+            row.len() == 256 && rows::read(row, &Calendar::default()) == Err(Refusal::StrikeText),
+            "row of 256 bytes that is read",
+        );
         let digits = |field: &[u8]| field.iter().all(u8::is_ascii_digit);
         for count in [18, 19] {
             self.count_if(
@@ -252,7 +256,7 @@ fn in_the_place_of_the_blank(white: &[u8]) -> String {
 /// The code of a listing whose other fields are sound.
 fn code_of(row: &[u8]) -> Option<&[u8]> {
     let code = row.strip_prefix(b"L,")?.split(|&byte| byte == b',').next()?;
-    (rows::read(row) != Err(Refusal::Row)).then_some(code)
+    (rows::read(row, &Calendar::default()) != Err(Refusal::Row)).then_some(code)
 }
 
 fn with_or_without_the_blank(code: &[u8]) -> &'static str {

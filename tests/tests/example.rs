@@ -1,5 +1,9 @@
-//! The worked example of crates/replay/stdin, and the ends that an input can have.
+//! The worked example of crates/replay/stdin, and the ends that an input can have; its call listed by date, and a calendar
+//! that is refused.
 
+use std::io::{self, Read};
+
+use second::calendar::File;
 use second::replay;
 
 const INPUT: &str = "\
@@ -38,8 +42,12 @@ fn crlf(text: &str) -> String {
 }
 
 fn answers(input: &str) -> String {
+    answers_with(&File::Missing, input.as_bytes())
+}
+
+fn answers_with(calendar: &File, input: &[u8]) -> String {
     let mut output = Vec::new();
-    replay(input.as_bytes(), &mut output).unwrap();
+    replay(calendar, input, &mut output).unwrap();
     String::from_utf8(output).unwrap()
 }
 
@@ -76,4 +84,66 @@ fn every_row_counts_and_refused_ones_too() {
 fn a_session_that_lacks_a_mark_names_the_series() {
     let input = crlf("L,GAZR-3.23M150323CA17000,100,1\nL,GAZR-3.23M150323CA18000,100,1\nM,0,0,0,100000\nV\n");
     assert!(answers(&input).ends_with("\r\n4,A,1,,16\r\n"));
+}
+
+#[test]
+fn the_day_of_the_codes_date_in_place_of_the_day() {
+    let input = INPUT.replace("17000,100,1", "17000,100");
+    assert_ne!(input, INPUT);
+    let with = |calendar: &str| answers_with(&File::Bytes(calendar.into()), crlf(&input).as_bytes());
+    for calendar in ["140323\r\n150323", "140323\r\n150323\r\n", "010100\r\n150323\r\n150324\r\n"] {
+        assert_eq!(with(calendar), crlf(OUTPUT));
+    }
+    // For day 0 it expires on the first evening, with half of it exercised; for day 2 it is live after the second.
+    assert!(with("150323").contains("\r\n6,F,0,1,5\r\n"));
+    assert!(!with("010100\r\n010200\r\n150323").contains(",F,"));
+    for calendar in ["", "140323\r\n150324", "150423"] {
+        assert!(with(calendar).starts_with("row,kind,series,account,amount\r\n1,A,,,22\r\n2,A,,,2\r\n"));
+    }
+    assert!(answers(&crlf(&input)).contains("\r\n1,A,,,22\r\n"));
+}
+
+#[test]
+fn a_date_without_a_day_is_refused_before_the_book_is_asked() {
+    let calendar = File::Bytes(b"150323\r\n160323".into());
+    let (known, unknown) = ("L,GAZR-3.23M150323CA17000,100\n", "L,GAZR-3.23M170323CA17000,100\n");
+    let last_answers = |rows: &str, count: usize| {
+        let lines = answers_with(&calendar, crlf(rows).as_bytes());
+        let answer = |line: &str| line.rsplit(',').next().unwrap().parse().unwrap();
+        let mut answers: Vec<u64> = lines.lines().rev().take(count).map(answer).collect();
+        answers.reverse();
+        answers
+    };
+    let finished = "V\n".repeat(1_000);
+    assert_eq!(last_answers(&format!("{finished}{known}{unknown}"), 2), [1, 22]);
+    let full = known.repeat(8);
+    assert_eq!(last_answers(&format!("{full}{known}{unknown}"), 3), [0, 11, 22]);
+    let wrong_tick = [known, unknown].map(|row| row.replace(",100\n", ",10001\n")).concat();
+    assert_eq!(last_answers(&wrong_tick, 2), [10, 22]);
+    assert_eq!(last_answers(&format!("V\n{known}{unknown}"), 2), [10, 22]);
+}
+
+/// An input that nobody may read from.
+struct Untouched;
+
+impl Read for Untouched {
+    fn read(&mut self, _: &mut [u8]) -> io::Result<usize> {
+        panic!("the input was read");
+    }
+}
+
+#[test]
+fn a_refused_calendar_stands_in_place_of_all_rows() {
+    for calendar in [File::Unreadable, File::Bytes(b"150323\r\n150323\r\n".into()), File::Bytes(b"\n".into())] {
+        let mut output = Vec::new();
+        replay(&calendar, Untouched, &mut output).unwrap();
+        assert_eq!(output, b"row,kind,series,account,amount\r\n0,A,,,21\r\n");
+    }
+}
+
+#[test]
+fn a_calendar_changes_no_row_that_gives_its_day() {
+    for calendar in ["", "150323", "140323\r\n150323\r\n", "160323"] {
+        assert_eq!(answers_with(&File::Bytes(calendar.into()), crlf(INPUT).as_bytes()), crlf(OUTPUT));
+    }
 }

@@ -3,6 +3,7 @@
 //! what they must come to.
 
 use second::book::{assign, Book, Event, OptionType, ACCOUNTS};
+use second::calendar::Calendar;
 use second::market::market;
 use second::rows::{self, Rows};
 use second::value::{coefficient, value};
@@ -140,7 +141,7 @@ fn events(input: &[u8]) -> Vec<Event> {
     let mut rows = Rows::new(input);
     let mut events = Vec::new();
     while let Some(row) = rows.next_row().unwrap() {
-        events.extend(rows::read(row));
+        events.extend(rows::read(row, &Calendar::default()));
     }
     events
 }

@@ -13,6 +13,7 @@ use std::sync::mpsc;
 use std::thread;
 use std::time::Duration;
 
+use second::calendar;
 use second::market::{codes, kind, market};
 use second::random::Random;
 use second::rows::Rows;
@@ -125,7 +126,7 @@ impl Comparison {
     fn market(&self, seed: u64) -> Result<(), String> {
         let input = market(seed);
         let mut expected = Vec::new();
-        replay(input.as_slice(), &mut expected).expect("memory can be read and written");
+        replay(&calendar::File::Missing, input.as_slice(), &mut expected).expect("memory can be read and written");
         let result = self.run(seed, &input).and_then(|(output, status)| {
             if output != expected {
                 return Err(first_difference(&input, &expected, &output));
@@ -221,7 +222,8 @@ impl Comparison {
     fn failed_write(&self) -> Result<(), String> {
         let rows = b"I\r\n".repeat(60_000);
         let mut expected = Vec::new();
-        replay(rows.repeat(2).as_slice(), &mut expected).expect("memory can be read and written");
+        replay(&calendar::File::Missing, rows.repeat(2).as_slice(), &mut expected)
+            .expect("memory can be read and written");
         let (mut reader, writer) = io::pipe().map_err(|error| error.to_string())?;
         fail_when_full(&writer).map_err(|error| error.to_string())?;
         let child = Command::new(&self.program).stdin(Stdio::piped()).stdout(writer).spawn();

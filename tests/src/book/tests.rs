@@ -1,9 +1,10 @@
 use super::*;
+use crate::calendar::Calendar;
 use crate::rows;
 
 /// Applies a row that is well formed.
 fn apply(book: &mut Book, row: &str) -> Result<Done, Refusal> {
-    book.apply(rows::read(row.as_bytes()).expect(row))
+    book.apply(rows::read(row.as_bytes(), &Calendar::default()).expect(row))
 }
 
 /// Applies rows that are carried out, one to a line.
