@@ -73,3 +73,6 @@ pub const GATE_SEEDS: std::ops::Range<u64> = 0..1000;
 
 /// The seeds of the contract codes that it compares beside them.
 pub const GATE_CODES: std::ops::Range<u64> = 0..200;
+
+/// And of the calendars, each with a few rows.
+pub const GATE_CALENDARS: std::ops::Range<u64> = 0..250;

@@ -1,14 +1,18 @@
 //! Markets from a seed: rows that follow the state of a book, so that most of them are carried out, with every
-//! refusal, damaged rows and odd ends of input among them.
+//! refusal, damaged rows and odd ends of input among them; and a trading calendar for each.
 
+mod by_date;
+mod calendar;
 mod code;
 mod damage;
 mod noise;
 
 use crate::book::{Book, ACCOUNTS, LAST_DAY, POSITION_LIMIT, SERIES};
-use crate::calendar::Calendar;
+use crate::calendar::{Calendar, File};
 use crate::random::Random;
 use crate::rows;
+
+pub use by_date::with_days;
 
 /// The kinds of market; a seed's kind is its remainder by their number.
 #[derive(Clone, Copy, Debug, PartialEq, Eq)]
@@ -52,15 +56,32 @@ pub fn kind(seed: u64) -> Kind {
     KINDS[(seed % KINDS.len() as u64) as usize]
 }
 
-/// The market of a seed, as input bytes.
+// Numbers of their own, so that what is drawn of calendars and dates leaves the other rows of a seed as they are.
+const CALENDARS: u64 = 1 << 62;
+const DATES: u64 = 1 << 63;
+
+/// The market of a seed, as input bytes. It fits the seed's calendar.
 pub fn market(seed: u64) -> Vec<u8> {
+    market_with(seed, &calendar(seed).calendar().unwrap_or_default())
+}
+
+pub fn calendar(seed: u64) -> File {
+    calendar::of_market(seed, &mut Random::new(seed ^ CALENDARS))
+}
+
+/// A calendar that is refused, or might be.
+pub fn odd_calendar(seed: u64) -> File {
+    calendar::odd(seed, &mut Random::new(seed ^ CALENDARS))
+}
+
+fn market_with(seed: u64, calendar: &Calendar) -> Vec<u8> {
     let mut random = Random::new(seed);
     let kind = kind(seed);
     if kind == Kind::Noise {
-        return noise::bytes(&mut random);
+        return noise::bytes(&mut random, calendar);
     }
     let style = Style::of(kind, &mut random);
-    let mut market = Market::new(random, style);
+    let mut market = Market::new(random, style, Random::new(seed ^ DATES), calendar.clone());
     market.run();
     market.end()
 }
@@ -184,6 +205,8 @@ const TRICKY: [u64; 44] = [
 struct Market {
     random: Random,
     style: Style,
+    dates: Random,
+    calendar: Calendar,
     book: Book,
     accounts: Vec<u64>,
     /// The price around which a series is traded, and the tick value around which it is marked.
@@ -193,7 +216,7 @@ struct Market {
 }
 
 impl Market {
-    fn new(mut random: Random, style: Style) -> Self {
+    fn new(mut random: Random, style: Style, dates: Random, calendar: Calendar) -> Self {
         // The first and the last account take part more often than others.
         let mut accounts = Vec::new();
         for account in [0, ACCOUNTS as u64 - 1] {
@@ -210,6 +233,8 @@ impl Market {
         Market {
             random,
             style,
+            dates,
+            calendar,
             book: Book::new(),
             accounts,
             price: [0; SERIES],
@@ -250,6 +275,7 @@ impl Market {
     }
 
     fn busy_day(&mut self) {
+        self.perhaps_odd_listing();
         while self.live().len() < self.style.live && self.book.series.len() < SERIES && !self.is_finished() {
             self.list();
         }
@@ -297,8 +323,9 @@ impl Market {
         let life = self.random.between(0, self.style.life);
         let last_day = (self.book.day + life).min(LAST_DAY);
         let code = code::some(&mut self.random);
+        self.perhaps_odd_listing();
         let listed = self.book.series.len();
-        self.row_with_code(&code, &[tick, last_day]);
+        self.listing(&code, tick, last_day);
         if listed < self.book.series.len() {
             self.price[listed] = self.random.between(0, 20_000);
             self.tick_value[listed] = self.some_tick_value(tick);
@@ -489,10 +516,11 @@ impl Market {
         self.push_or_damage(text(letter, &fields).into_bytes());
     }
 
-    fn row_with_code(&mut self, code: &[u8], fields: &[u64]) {
-        let mut fields = fields.to_vec();
+    fn listing(&mut self, code: &[u8], tick: u64, last_day: u64) {
+        let mut fields = [tick, last_day];
         self.make_wrong(&mut fields);
-        self.push_or_damage([b"L,", code, text("", &fields).as_bytes()].concat());
+        let row = self.for_a_day_or_by_date(code, fields);
+        self.push_or_damage(row);
     }
 
     fn make_wrong(&mut self, fields: &mut [u64]) {
@@ -521,7 +549,7 @@ impl Market {
     fn push(&mut self, row: &[u8]) {
         self.bytes.extend_from_slice(row);
         self.bytes.extend_from_slice(b"\r\n");
-        if let Ok(event) = rows::read(row, &Calendar::default()) {
+        if let Ok(event) = rows::read(row, &self.calendar) {
             let _ = self.book.apply(event);
         }
     }

@@ -72,7 +72,7 @@ impl<R: Read> Rows<R> {
     }
 }
 
-fn find_crlf(bytes: &[u8]) -> Option<usize> {
+pub fn find_crlf(bytes: &[u8]) -> Option<usize> {
     bytes.windows(2).position(|pair| pair == b"\r\n")
 }
 

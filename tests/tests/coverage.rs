@@ -1,14 +1,20 @@
-//! The markets and the codes of the gate's seeds, and the market of the full size, reach what they are meant to reach.
+//! The markets, the codes and the calendars of the gate's seeds, and the market of the full size, reach what they are meant
+//! to reach.
+
+#[path = "coverage/calendars.rs"]
+mod calendars;
 
 use std::collections::BTreeMap;
 
 use second::book::{Book, Category, Done, Event, OptionType, LAST_DAY, POSITION_LIMIT};
-use second::calendar::Calendar;
+use second::calendar::{Calendar, File};
 use second::codes::{self, Style, Terms};
-use second::market::market;
+use second::market::{calendar, market, odd_calendar};
 use second::refusal::Refusal;
 use second::rows::{self, Rows};
-use second::{GATE_CODES, GATE_SEEDS};
+use second::{GATE_CALENDARS, GATE_CODES, GATE_SEEDS};
+
+use calendars::{wanted_of_broken_calendars, wanted_of_listings_by_date};
 
 /// How often each thing has happened.
 #[derive(Default)]
@@ -16,6 +22,8 @@ struct Census {
     counts: BTreeMap<String, u64>,
     rows: u64,
     carried_out: u64,
+    /// The series of the present market that were listed by date.
+    by_date: Vec<u8>,
 }
 
 impl Census {
@@ -35,9 +43,9 @@ impl Census {
         }
     }
 
-    fn demand(&self, wanted: &[String]) {
+    fn demand(&self, least: u64, wanted: &[String]) {
         for what in wanted {
-            assert!(self.counts.get(what).is_some_and(|&count| count >= 5), "too few: {what}");
+            assert!(self.counts.get(what).is_some_and(|&count| count >= least), "too few: {what}");
         }
     }
 
@@ -46,7 +54,16 @@ impl Census {
         assert!(with.abs_diff(without) < (with + without) / 10, "both styles are about equally frequent");
     }
 
-    fn take(&mut self, input: &[u8]) {
+    /// What a market holds, and what comes of it with its calendar.
+    fn take(&mut self, file: &File, input: &[u8]) {
+        self.take_calendar(file);
+        match file.calendar() {
+            Ok(calendar) => self.take_rows(file, &calendar, input),
+            Err(refusal) => self.count(format!("refusal {}", refusal.number())),
+        }
+    }
+
+    fn take_rows(&mut self, file: &File, calendar: &Calendar, input: &[u8]) {
         self.count_if(input.is_empty(), "empty input");
         self.count_if(!input.ends_with(b"\r\n"), "last CRLF missing");
         self.count_if(input.ends_with(b"\r"), "lone CR at the end");
@@ -54,15 +71,17 @@ impl Census {
         self.count_if(long, "row longer than a buffer");
         let mut rows = Rows::new(input);
         let mut book = Book::new();
+        self.by_date.clear();
         while let Some(row) = rows.next_row().unwrap() {
             self.rows += 1;
             self.take_bytes(row);
-            let event = rows::read(row, &Calendar::default());
+            let event = rows::read(row, calendar);
             if let Ok(event) = event {
                 self.take_event(&book, &event);
             }
             let answer = event.and_then(|event| book.apply(event));
             self.take_answer(&book, event.ok(), &answer);
+            self.take_listing(file, calendar, &book, row, &answer);
             if let Some(code) = code_of(row) {
                 self.take_code(code);
                 let is_listed = matches!(answer, Ok(Done::Listed(_)));
@@ -79,10 +98,8 @@ impl Census {
         for length in [256, 257, 300, 10_000] {
             self.count_if(row.len() == length, &format!("row of {length} bytes"));
         }
-        self.count_if(
-            row.len() == 256 && rows::read(row, &Calendar::default()) == Err(Refusal::StrikeText),
-            "row of 256 bytes that is read",
-        );
+        let is_read = rows::read(row, &Calendar::default()) == Err(Refusal::StrikeText);
+        self.count_if(row.len() == 256 && is_read, "row of 256 bytes that is read");
         let digits = |field: &[u8]| field.iter().all(u8::is_ascii_digit);
         for count in [18, 19] {
             self.count_if(
@@ -234,6 +251,7 @@ impl Census {
             Err(refusal) => self.count(format!("refusal {}", refusal.number())),
         }
         self.carried_out += u64::from(answer.is_ok());
+        self.take_event_by_date(book, event, answer);
         if let (Some(Event::Exercise { series, .. }), Ok(_)) = (event, answer) {
             self.count_if(book.series[usize::from(series)].category == Category::European, "European exercise entered");
         }
@@ -355,9 +373,9 @@ fn wanted_of_codes() -> Vec<String> {
 fn every_refusal_and_every_kind_of_line() {
     let mut census = Census::default();
     for seed in GATE_SEEDS {
-        census.take(&market(seed));
+        census.take(&calendar(seed), &market(seed));
     }
-    let mut wanted: Vec<String> = (1..=20).map(|number| format!("refusal {number}")).collect();
+    let mut wanted: Vec<String> = (1..=22).map(|number| format!("refusal {number}")).collect();
     wanted.extend(
         [
             "A without series",
@@ -416,9 +434,11 @@ fn every_refusal_and_every_kind_of_line() {
         .map(String::from),
     );
     wanted.extend(wanted_of_codes());
+    wanted.extend(wanted_of_listings_by_date());
     println!("{} rows, {} carried out", census.rows, census.carried_out);
     census.print();
-    census.demand(&wanted);
+    census.demand(5, &wanted);
+    census.demand(1, &wanted_of_broken_calendars());
     assert!(3 * census.carried_out > 2 * census.rows, "most rows are carried out");
     census.demand_both_styles();
 }
@@ -441,8 +461,21 @@ fn every_kind_of_code_in_lines() {
     // It ends a line and is in no code.
     wanted.retain(|what| *what != in_the_place_of_the_blank(b"\n"));
     wanted.push("last LF missing".into());
-    census.demand(&wanted);
+    census.demand(5, &wanted);
     census.demand_both_styles();
+}
+
+#[test]
+fn every_kind_of_broken_calendar() {
+    let mut census = Census::default();
+    for seed in GATE_CALENDARS {
+        census.take(&odd_calendar(seed), b"");
+    }
+    census.print();
+    census.demand(5, &wanted_of_broken_calendars());
+    let refused = census.counts["refusal 21"];
+    let all = GATE_CALENDARS.end - GATE_CALENDARS.start;
+    assert!((all / 2..all).contains(&refused), "most are refused, but not all");
 }
 
 #[test]
@@ -450,7 +483,7 @@ fn the_market_of_the_full_size() {
     let mut input = Vec::new();
     second::load::write(&mut input).unwrap();
     let mut census = Census::default();
-    census.take(&input);
+    census.take(&File::Missing, &input);
     assert!((275_000..=285_000).contains(&census.rows));
     assert_eq!(census.carried_out, census.rows);
     for what in ["F positive", "F negative", "M paid in an intraday", "M received in an evening", "full blotter"] {

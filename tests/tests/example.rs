@@ -4,7 +4,8 @@
 use std::io::{self, Read};
 
 use second::calendar::File;
-use second::replay;
+use second::market::{calendar, market, with_days};
+use second::{replay, GATE_SEEDS};
 
 const INPUT: &str = "\
 L,GAZR-3.23M150323CA17000,100,1
@@ -146,4 +147,17 @@ fn a_calendar_changes_no_row_that_gives_its_day() {
     for calendar in ["", "150323", "140323\r\n150323\r\n", "160323"] {
         assert_eq!(answers_with(&File::Bytes(calendar.into()), crlf(INPUT).as_bytes()), crlf(OUTPUT));
     }
+}
+
+#[test]
+fn a_market_listed_by_dates_is_the_market_of_their_days() {
+    let mut rewritten = 0;
+    for seed in GATE_SEEDS {
+        let (file, input) = (calendar(seed), market(seed));
+        let Ok(calendar) = file.calendar() else { continue };
+        let with_days = with_days(&input, &calendar);
+        rewritten += u64::from(with_days != input);
+        assert_eq!(answers_with(&file, &input), answers_with(&File::Missing, &with_days), "market {seed}");
+    }
+    assert!(rewritten > 400, "only {rewritten} markets list by date");
 }

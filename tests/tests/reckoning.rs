@@ -3,8 +3,7 @@
 //! what they must come to.
 
 use second::book::{assign, Book, Event, OptionType, ACCOUNTS};
-use second::calendar::Calendar;
-use second::market::market;
+use second::market::{calendar, market};
 use second::rows::{self, Rows};
 use second::value::{coefficient, value};
 use second::GATE_SEEDS;
@@ -137,11 +136,14 @@ impl Series {
     }
 }
 
-fn events(input: &[u8]) -> Vec<Event> {
-    let mut rows = Rows::new(input);
+/// The events of a seed's market; a refused calendar leaves none.
+fn events(seed: u64) -> Vec<Event> {
+    let Ok(calendar) = calendar(seed).calendar() else { return Vec::new() };
+    let input = market(seed);
+    let mut rows = Rows::new(input.as_slice());
     let mut events = Vec::new();
     while let Some(row) = rows.next_row().unwrap() {
-        events.extend(rows::read(row, &Calendar::default()));
+        events.extend(rows::read(row, &calendar));
     }
     events
 }
@@ -152,7 +154,7 @@ fn the_reckoning_finds_positions_futures_and_cash() {
     for seed in GATE_SEEDS {
         let mut book = Book::new();
         let mut reckoning = Reckoning::new();
-        for event in events(&market(seed)) {
+        for event in events(seed) {
             if book.apply(event).is_err() {
                 continue;
             }
@@ -182,7 +184,7 @@ fn the_reckoning_finds_positions_futures_and_cash() {
 fn marks_made_for_an_intraday_session_move_no_evening_cash() {
     let mut moved = 0;
     for seed in GATE_SEEDS {
-        let events = events(&market(seed));
+        let events = events(seed);
         let mut book = Book::new();
         let carried_out: Vec<bool> = events.iter().map(|&event| book.apply(event).is_ok()).collect();
         let (mut book, mut other) = (Book::new(), Book::new());

@@ -1,12 +1,13 @@
 //! Inputs that are no market.
 
-use super::{market, KINDS};
+use super::{market_with, KINDS};
+use crate::calendar::Calendar;
 use crate::random::Random;
 
 const ROW_BYTES: &[u8] = b"LTXDMIV,,,,0123456789.-\r\n\r\n\r\n";
 const ENDS: &[u8] = b"\r\r\n\nIV,";
 
-pub fn bytes(random: &mut Random) -> Vec<u8> {
+pub fn bytes(random: &mut Random, calendar: &Calendar) -> Vec<u8> {
     let length = random.pick(&[0, 1, 2, 3, 50, 1_000, 5_000]);
     match random.below(7) {
         0 => (0..length).map(|_| random.below(256) as u8).collect(),
@@ -15,7 +16,7 @@ pub fn bytes(random: &mut Random) -> Vec<u8> {
         3 => b"\r\n".repeat(length),
         4 => without_an_end(random),
         5 => short_rows(random, length / 5),
-        _ => with_changed_bytes(random),
+        _ => with_changed_bytes(random, calendar),
     }
 }
 
@@ -52,9 +53,9 @@ fn short_rows(random: &mut Random, count: usize) -> Vec<u8> {
 }
 
 /// A market in which any byte may have been changed.
-fn with_changed_bytes(random: &mut Random) -> Vec<u8> {
+fn with_changed_bytes(random: &mut Random, calendar: &Calendar) -> Vec<u8> {
     let seed = random.below(1 << 32) / KINDS.len() as u64 * KINDS.len() as u64;
-    let mut bytes = market(seed);
+    let mut bytes = market_with(seed, calendar);
     let changes = random.pick(&[1, 2, 10]);
     for byte in &mut bytes {
         if random.permille(changes) {
