@@ -10,6 +10,7 @@ pub mod codes;
 pub mod load;
 pub mod market;
 pub mod output;
+pub mod program;
 pub mod random;
 pub mod refusal;
 pub mod rows;

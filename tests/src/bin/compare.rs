@@ -1,28 +1,36 @@
 //! Runs a program on the markets of many seeds and compares its output, byte for byte, with the second implementation's:
 //! `compare PROGRAM DIRECTORY [FIRST COUNT]`. `compare codes PROGRAM DIRECTORY [FIRST COUNT]` does so with a program that
-//! reads contract codes, on the codes of many seeds. An input whose output differs is left in the directory.
+//! reads contract codes, on the codes of many seeds. An input whose output differs is left in the directory, with its
+//! trading calendar.
 
-use std::fs::{self, File};
+use std::fs;
 use std::io::{self, Read, Write};
 use std::ops::Range;
 use std::os::fd::AsRawFd;
 use std::os::raw::c_int;
+use std::os::unix::fs::PermissionsExt;
+use std::os::unix::process::CommandExt;
 use std::path::PathBuf;
-use std::process::{Child, Command, ExitCode, ExitStatus, Stdio};
-use std::sync::mpsc;
+use std::process::{ExitCode, ExitStatus, Stdio};
 use std::thread;
 use std::time::Duration;
 
-use second::calendar;
-use second::market::{codes, kind, market};
+use second::calendar::{File, MOST_BYTES, MOST_DATES};
+use second::codes::Date;
+use second::market::{calendar, codes, kind, market, odd_calendar, with_days};
+use second::program::{finish, write_calendar, End, Folder, Program, PATIENCE};
 use second::random::Random;
 use second::rows::Rows;
-use second::{code_lines, output, replay, GATE_CODES, GATE_SEEDS};
+use second::{code_lines, output, replay, GATE_CALENDARS, GATE_CODES, GATE_SEEDS};
 
-const PATIENCE: Duration = Duration::from_secs(60);
+/// How long a program may take where it has next to nothing to do.
+const AT_ONCE: Duration = Duration::from_secs(5);
 
 /// How many differences are told in full.
 const TOLD: u64 = 5;
+
+/// So many markets are run once more with days in the place of dates.
+const REWRITTEN: usize = 50;
 
 #[derive(Clone, Copy, PartialEq, Eq)]
 enum Subject {
@@ -35,10 +43,14 @@ struct Options {
     program: PathBuf,
     directory: PathBuf,
     seeds: Range<u64>,
+    /// Of calendars that are compared beside the markets.
+    calendars: Range<u64>,
 }
 
+type Case = fn(&mut Comparison) -> Result<(), String>;
+
 struct Comparison {
-    program: PathBuf,
+    program: Program,
     directory: PathBuf,
     passed: u64,
     failed: u64,
@@ -46,7 +58,7 @@ struct Comparison {
 
 fn main() -> ExitCode {
     let words: Vec<String> = std::env::args().skip(1).collect();
-    let Some(Options { subject, program, directory, seeds }) = options(&words) else {
+    let Some(Options { subject, program, directory, seeds, calendars }) = options(&words) else {
         eprintln!("usage: compare [codes] PROGRAM DIRECTORY [FIRST COUNT]");
         return ExitCode::from(2);
     };
@@ -54,13 +66,21 @@ fn main() -> ExitCode {
         eprintln!("{}: there is no such program", program.display());
         return ExitCode::from(2);
     }
-    let mut comparison = Comparison { program, directory, passed: 0, failed: 0 };
-    if let Err(error) = fs::create_dir_all(&comparison.directory) {
-        eprintln!("{}: {error}", comparison.directory.display());
+    if let Err(error) = fs::create_dir_all(&directory) {
+        eprintln!("{}: {error}", directory.display());
         return ExitCode::from(2);
     }
+    let folder = match Folder::new("compare") {
+        Ok(folder) => folder,
+        Err(error) => {
+            eprintln!("no folder to run in: {error}");
+            return ExitCode::from(2);
+        }
+    };
+    let program = Program::new(program, folder);
+    let mut comparison = Comparison { program, directory, passed: 0, failed: 0 };
     match subject {
-        Subject::Markets => comparison.markets(seeds),
+        Subject::Markets => comparison.markets(seeds, calendars),
         Subject::Codes => comparison.codes(seeds),
     }
     println!("{} passed, {} failed", comparison.passed, comparison.failed);
@@ -76,17 +96,18 @@ fn options(words: &[String]) -> Option<Options> {
         [word, rest @ ..] if word == "codes" => (Subject::Codes, GATE_CODES, rest),
         _ => (Subject::Markets, GATE_SEEDS, words),
     };
-    let (program, directory, seeds) = match words {
-        [program, directory] => (program, directory, gate),
+    let (program, directory, seeds, calendars) = match words {
+        [program, directory] => (program, directory, gate, GATE_CALENDARS),
         [program, directory, first, count] => {
             let first: u64 = first.parse().ok()?;
-            (program, directory, first..first.checked_add(count.parse().ok()?)?)
+            let seeds = first..first.checked_add(count.parse().ok()?)?;
+            (program, directory, seeds.clone(), seeds)
         }
         _ => return None,
     };
     // A path without a slash would be looked for elsewhere.
     let program = fs::canonicalize(program).unwrap_or(program.into());
-    Some(Options { subject, program, directory: directory.into(), seeds })
+    Some(Options { subject, program, directory: directory.into(), seeds, calendars })
 }
 
 impl Comparison {
@@ -102,17 +123,34 @@ impl Comparison {
         }
     }
 
-    fn markets(&mut self, seeds: Range<u64>) {
-        for seed in seeds {
+    fn markets(&mut self, seeds: Range<u64>, calendars: Range<u64>) {
+        for seed in seeds.clone() {
             let result = self.market(seed);
             self.count(&format!("market {seed} ({:?})", kind(seed)), result);
         }
-        let result = self.closed_output();
-        self.count("closed output", result);
-        let result = self.failed_write();
-        self.count("failed write", result);
-        let result = self.read_error();
-        self.count("read error", result);
+        for seed in calendars {
+            let result = self.odd_calendar(seed);
+            self.count(&format!("calendar {seed}"), result);
+        }
+        for seed in seeds.filter(|&seed| lists_by_date(seed)).take(REWRITTEN) {
+            let result = self.days_for_dates(seed);
+            self.count(&format!("market {seed} with days for dates"), result);
+        }
+        let cases: [(&str, Case); 8] = [
+            ("closed output", Self::closed_output),
+            ("failed write", Self::failed_write),
+            ("read error", Self::read_error),
+            ("calendar that is a folder", Self::folder_for_a_calendar),
+            ("calendar of a byte too many", Self::byte_too_many),
+            ("calendar without end", Self::endless_calendar),
+            ("calendar of 1,000 dates", Self::thousand_dates),
+            ("refused calendar, and an input that says nothing", Self::silent_input),
+        ];
+        for (name, case) in cases {
+            let result = case(self);
+            self.count(name, result);
+        }
+        self.forbidden_calendar();
     }
 
     fn codes(&mut self, seeds: Range<u64>) {
@@ -123,87 +161,77 @@ impl Comparison {
     }
 
     /// The whole output on one market.
-    fn market(&self, seed: u64) -> Result<(), String> {
-        let input = market(seed);
-        let mut expected = Vec::new();
-        replay(&calendar::File::Missing, input.as_slice(), &mut expected).expect("memory can be read and written");
-        let result = self.run(seed, &input).and_then(|(output, status)| {
-            if output != expected {
-                return Err(first_difference(&input, &expected, &output));
-            }
-            succeeded(status)
-        });
-        self.keep(&format!("market-{seed}.csv"), &input, result)
+    fn market(&mut self, seed: u64) -> Result<(), String> {
+        let (calendar, input) = (calendar(seed), market(seed));
+        let expected = answers(&calendar, &input);
+        self.put(&calendar)?;
+        let mut random = Random::new(seed);
+        let end = if random.one_in(4) {
+            self.program.run_on_file(&input)
+        } else {
+            self.program.run_on_pieces(&input, random)
+        };
+        self.keep(&format!("market-{seed}"), &calendar, &input, check(end, &input, &expected))
+    }
+
+    /// The whole output on a calendar that is refused, or might be. The rows ask for all dates that it might have.
+    fn odd_calendar(&mut self, seed: u64) -> Result<(), String> {
+        let calendar = odd_calendar(seed);
+        let input = listings_by_all_dates(&calendar);
+        let expected = answers(&calendar, &input);
+        self.put(&calendar)?;
+        let end = self.program.run_on_file(&input);
+        self.keep(&format!("calendar-{seed}"), &calendar, &input, check(end, &input, &expected))
+    }
+
+    /// A market gives the lines of the same market that has days in the place of dates, and needs no calendar then.
+    fn days_for_dates(&mut self, seed: u64) -> Result<(), String> {
+        let (file, input) = (calendar(seed), market(seed));
+        self.put(&file)?;
+        let (by_date, _) = self.program.run_on_file(&input)?;
+        self.put(&File::Missing)?;
+        let rewritten = with_days(&input, &file.calendar().unwrap_or_default());
+        let end = self.program.run_on_file(&rewritten);
+        self.keep(&format!("days-{seed}"), &file, &input, check(end, &input, &by_date))
     }
 
     /// The whole output on the codes of one seed.
     fn lines_of_codes(&self, seed: u64) -> Result<(), String> {
         let input = codes(seed);
         let expected = code_lines::lines(&input);
-        let result = self.run_on_file(&input).and_then(|(output, status)| {
+        let result = self.program.run_on_file(&input).and_then(|(output, status)| {
             if output != expected {
                 return Err(first_unlike_line(&expected, &output));
             }
             succeeded(status)
         });
-        self.keep(&format!("codes-{seed}.txt"), &input, result)
+        self.keep(&format!("codes-{seed}"), &File::Missing, &input, result)
     }
 
-    /// Leaves an input in the directory if its result is a failure.
-    fn keep(&self, name: &str, input: &[u8], result: Result<(), String>) -> Result<(), String> {
-        let path = self.directory.join(name);
-        match result {
-            Ok(()) => {
-                // What an earlier run may have left.
-                let _ = fs::remove_file(path);
-                Ok(())
-            }
-            Err(why) => match fs::write(&path, input) {
-                Ok(()) => Err(format!("{why}\n  input: {}", path.display())),
-                Err(error) => Err(format!("{why}\n  {}: {error}", path.display())),
-            },
+    fn put(&mut self, calendar: &File) -> Result<(), String> {
+        self.program.folder.put(calendar).map_err(|error| error.to_string())
+    }
+
+    /// Leaves an input and its calendar in a folder of the directory if the result is a failure.
+    fn keep(&self, name: &str, calendar: &File, input: &[u8], result: Result<(), String>) -> Result<(), String> {
+        let folder = self.directory.join(name);
+        // What an earlier run may have left.
+        let _ = fs::remove_dir_all(&folder);
+        let Err(why) = result else { return Ok(()) };
+        let path = folder.join("input.csv");
+        let left = fs::create_dir(&folder)
+            .and_then(|()| write_calendar(&folder, calendar))
+            .and_then(|()| fs::write(&path, input));
+        match left {
+            Ok(()) => Err(format!("{why}\n  input: {}", path.display())),
+            Err(error) => Err(format!("{why}\n  {}: {error}", path.display())),
         }
-    }
-
-    fn run_on_file(&self, input: &[u8]) -> Result<(Vec<u8>, ExitStatus), String> {
-        let path = self.directory.join("input.csv");
-        fs::write(&path, input).map_err(|error| error.to_string())?;
-        let file = File::open(&path).map_err(|error| error.to_string())?;
-        finish(self.start(file.into())?)
-    }
-
-    /// Runs the program, on a file or on a pipe that is filled in pieces of various sizes.
-    fn run(&self, seed: u64, input: &[u8]) -> Result<(Vec<u8>, ExitStatus), String> {
-        let mut random = Random::new(seed);
-        if random.one_in(4) {
-            return self.run_on_file(input);
-        }
-        let mut child = self.start(Stdio::piped())?;
-        let mut pipe = child.stdin.take().expect("it was asked for");
-        let bytes = input.to_vec();
-        let largest = random.pick(&[3, 100, 5_000, 70_000]).max(bytes.len() as u64 / 5_000);
-        thread::spawn(move || {
-            let mut rest = bytes.as_slice();
-            while !rest.is_empty() {
-                let (piece, others) = rest.split_at((random.between(1, largest) as usize).min(rest.len()));
-                if pipe.write_all(piece).is_err() {
-                    break;
-                }
-                rest = others;
-            }
-        });
-        finish(child)
-    }
-
-    fn start(&self, input: Stdio) -> Result<Child, String> {
-        let mut command = Command::new(&self.program);
-        let child = command.stdin(input).stdout(Stdio::piped()).spawn();
-        child.map_err(|error| format!("{}: {error}", self.program.display()))
     }
 
     /// A program whose output nobody reads comes to an end all the same.
-    fn closed_output(&self) -> Result<(), String> {
-        let mut child = self.start(Stdio::piped())?;
+    fn closed_output(&mut self) -> Result<(), String> {
+        self.put(&File::Missing)?;
+        let mut child = self.program.start(Stdio::piped())?;
         drop(child.stdout.take());
         let mut pipe = child.stdin.take().expect("it was asked for");
         thread::spawn(move || while pipe.write_all(&b"I\r\n".repeat(10_000)).is_ok() {});
@@ -219,14 +247,13 @@ impl Comparison {
     }
 
     /// After a write that fails nothing more is written, though it could be: what is there is the beginning of the output.
-    fn failed_write(&self) -> Result<(), String> {
+    fn failed_write(&mut self) -> Result<(), String> {
+        self.put(&File::Missing)?;
         let rows = b"I\r\n".repeat(60_000);
-        let mut expected = Vec::new();
-        replay(&calendar::File::Missing, rows.repeat(2).as_slice(), &mut expected)
-            .expect("memory can be read and written");
+        let expected = answers(&File::Missing, &rows.repeat(2));
         let (mut reader, writer) = io::pipe().map_err(|error| error.to_string())?;
         fail_when_full(&writer).map_err(|error| error.to_string())?;
-        let child = Command::new(&self.program).stdin(Stdio::piped()).stdout(writer).spawn();
+        let child = self.program.command().stdin(Stdio::piped()).stdout(writer).spawn();
         let mut child = child.map_err(|error| error.to_string())?;
         let mut pipe = child.stdin.take().expect("it was asked for");
         // Longer than a pipe holds: once it is sent, the program has gone through most of it, and its output was full.
@@ -248,9 +275,10 @@ impl Comparison {
     }
 
     /// An input that can't be read, as a directory can't, gives the header alone.
-    fn read_error(&self) -> Result<(), String> {
-        let directory = File::open(&self.directory).map_err(|error| error.to_string())?;
-        let (output, status) = finish(self.start(directory.into())?)?;
+    fn read_error(&mut self) -> Result<(), String> {
+        self.put(&File::Missing)?;
+        let directory = fs::File::open(&self.directory).map_err(|error| error.to_string())?;
+        let (output, status) = finish(self.program.start(directory)?, PATIENCE)?;
         if output != output::HEADER {
             return Err(format!("it wrote {:?}", String::from_utf8_lossy(&output)));
         }
@@ -259,6 +287,125 @@ impl Comparison {
         }
         Ok(())
     }
+
+    fn folder_for_a_calendar(&mut self) -> Result<(), String> {
+        self.put(&File::Unreadable)?;
+        check_refused(self.program.run_on_file(ROWS))
+    }
+
+    /// Behind the lines of a full calendar one byte more, whatever it is.
+    fn byte_too_many(&mut self) -> Result<(), String> {
+        for byte in [b'\r', b'\n', b'0', b' ', 0] {
+            self.put(&File::Bytes([&full_calendar()[..], &[byte]].concat()))?;
+            check_refused(self.program.run_on_file(ROWS)).map_err(|why| format!("byte {byte}: {why}"))?;
+        }
+        Ok(())
+    }
+
+    /// A file that would take minutes to read is answered at once.
+    fn endless_calendar(&mut self) -> Result<(), String> {
+        let mut folder = Folder::new("endless").map_err(|error| error.to_string())?;
+        let long = folder.put(&File::Bytes(full_calendar())).and_then(|()| {
+            let file = fs::OpenOptions::new().write(true).open(folder.calendar_path())?;
+            // It has no blocks beyond the lines of the calendar.
+            file.set_len(1 << 40)
+        });
+        long.map_err(|error| error.to_string())?;
+        let program = Program::new(self.program.path().into(), folder);
+        check_refused(finish(program.start(Stdio::null())?, AT_ONCE))
+    }
+
+    /// The last of 1,000 dates is day 999, with the last CRLF and without.
+    fn thousand_dates(&mut self) -> Result<(), String> {
+        let full = full_calendar();
+        let date = String::from_utf8_lossy(&full[MOST_BYTES - 8..][..6]).into_owned();
+        let evening = "M,0,100,100,100000\r\nV\r\n";
+        let input = format!("L,A-1.00M{date}CA1,1\r\nT,0,1,2,3,4\r\n{}", evening.repeat(1_001)).into_bytes();
+        for text in [&full[..], &full[..MOST_BYTES - 2]] {
+            let file = File::Bytes(text.to_vec());
+            self.put(&file)?;
+            check(self.program.run_on_file(&input), &input, &answers(&file, &input))?;
+        }
+        Ok(())
+    }
+
+    /// With a refused calendar nobody has to write rows, or to end them.
+    fn silent_input(&mut self) -> Result<(), String> {
+        self.put(&File::Unreadable)?;
+        let mut child = self.program.start(Stdio::piped())?;
+        let input = child.stdin.take();
+        let result = check_refused(finish(child, AT_ONCE));
+        drop(input);
+        result
+    }
+
+    fn forbidden_calendar(&mut self) {
+        let name = "calendar without the right to read it";
+        match self.run_without_the_right() {
+            Ok(end) => self.count(name, check_refused(end)),
+            Err(error) => println!("{name}: skipped, for the program can't be run so: {error}"),
+        }
+    }
+
+    /// Where this process may read a calendar that nobody has the right to read, as root may, a copy of the program runs as
+    /// somebody else.
+    fn run_without_the_right(&self) -> io::Result<End> {
+        const SOMEBODY: u32 = 65_534;
+        let mut folder = Folder::new("forbidden")?;
+        folder.put(&File::Bytes(full_calendar()))?;
+        let (copy, calendar) = (folder.path().join("program"), folder.calendar_path());
+        fs::copy(self.program.path(), &copy)?;
+        for (path, mode) in [(folder.path(), 0o755), (&copy, 0o755), (&calendar, 0)] {
+            fs::set_permissions(path, fs::Permissions::from_mode(mode))?;
+        }
+        let program = Program::new(copy, folder);
+        let mut command = program.command();
+        if fs::File::open(&calendar).is_ok() {
+            command.uid(SOMEBODY).gid(SOMEBODY);
+        }
+        Ok(finish(command.stdin(Stdio::null()).spawn()?, AT_ONCE))
+    }
+}
+
+/// An input for programs that have no need of it.
+const ROWS: &[u8] = b"I\r\nV\r\n";
+
+/// The first 28 days of the first months from 2000 on, until there are 1,000.
+fn full_calendar() -> Vec<u8> {
+    let months = (0..3).flat_map(|year| (1..=12).map(move |month| (year, month)));
+    let dates = months.flat_map(|(year, month)| (1..=28).map(move |day| Date { year, month, day }));
+    dates.take(MOST_DATES).flat_map(|date| format!("{date}\r\n").into_bytes()).collect()
+}
+
+/// Listings by whatever six digits there are.
+fn listings_by_all_dates(calendar: &File) -> Vec<u8> {
+    let File::Bytes(bytes) = calendar else { return ROWS.to_vec() };
+    let dates = bytes.windows(6).filter(|digits| digits.iter().all(u8::is_ascii_digit));
+    dates.take(60).flat_map(|date| [b"L,A-1.00M", date, b"CA1,1\r\n"].concat()).collect()
+}
+
+/// Whether the market of a seed has rows that leave their day to its calendar and find one there.
+fn lists_by_date(seed: u64) -> bool {
+    let rows = market(seed);
+    calendar(seed).calendar().is_ok_and(|calendar| with_days(&rows, &calendar) != rows)
+}
+
+fn answers(calendar: &File, input: &[u8]) -> Vec<u8> {
+    let mut answers = Vec::new();
+    replay(calendar, input, &mut answers).expect("memory can be read and written");
+    answers
+}
+
+fn check(end: End, input: &[u8], expected: &[u8]) -> Result<(), String> {
+    let (output, status) = end?;
+    if output != expected {
+        return Err(first_difference(input, expected, &output));
+    }
+    succeeded(status)
+}
+
+fn check_refused(end: End) -> Result<(), String> {
+    check(end, b"", b"row,kind,series,account,amount\r\n0,A,,,21\r\n")
 }
 
 fn succeeded(status: ExitStatus) -> Result<(), String> {
@@ -281,27 +428,6 @@ fn fail_when_full(pipe: &io::PipeWriter) -> io::Result<()> {
         return Err(io::Error::last_os_error());
     }
     Ok(())
-}
-
-/// Reads the child's output to its end, but with an end to patience.
-fn finish(mut child: Child) -> Result<(Vec<u8>, ExitStatus), String> {
-    let mut pipe = child.stdout.take().expect("it was asked for");
-    let (sender, receiver) = mpsc::channel();
-    thread::spawn(move || {
-        let mut output = Vec::new();
-        let result: io::Result<usize> = pipe.read_to_end(&mut output);
-        let _ = sender.send(result.map(|_| output));
-    });
-    let output = receiver.recv_timeout(PATIENCE);
-    if output.is_err() {
-        let _ = child.kill();
-    }
-    let status = child.wait().map_err(|error| error.to_string())?;
-    match output {
-        Ok(Ok(output)) => Ok((output, status)),
-        Ok(Err(error)) => Err(error.to_string()),
-        Err(_) => Err(format!("no end after {} seconds", PATIENCE.as_secs())),
-    }
 }
 
 /// Tells the first row whose lines differ, with both lines.

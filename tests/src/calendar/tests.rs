@@ -1,4 +1,5 @@
 use super::*;
+use crate::program::Folder;
 
 fn date(text: &str) -> Date {
     Date::read(text.as_bytes().try_into().expect("six digits")).expect("six digits")
@@ -155,4 +156,27 @@ fn a_thousand_dates_and_no_more() {
     for byte in ["0", "\r", "\n", " ", "\0"] {
         assert_eq!(read(&(lines(1_000) + byte)), Err(Refusal::Calendar));
     }
+}
+
+#[test]
+fn what_stands_under_the_calendars_name() {
+    let mut folder = Folder::new("calendar").unwrap();
+    let path = folder.calendar_path();
+    assert_eq!(File::at(&path), File::Missing);
+    assert_eq!(File::at(&path).calendar(), Ok(Calendar::default()));
+    for file in [File::Bytes(Vec::new()), File::Bytes(b"150323\r\n\xff".to_vec()), File::Unreadable] {
+        folder.put(&file).unwrap();
+        assert_eq!(File::at(&path), file);
+    }
+    assert_eq!(File::Unreadable.calendar(), Err(Refusal::Calendar));
+}
+
+#[test]
+fn of_a_long_file_one_byte_too_many_is_read() {
+    let mut folder = Folder::new("long").unwrap();
+    for (length, read) in [(7_999, 7_999), (8_000, 8_000), (8_001, 8_001), (8_002, 8_001), (1_000_000, 8_001)] {
+        folder.put(&File::Bytes(vec![b'0'; length])).unwrap();
+        assert_eq!(File::at(&folder.calendar_path()), File::Bytes(vec![b'0'; read]));
+    }
+    assert_eq!(File::first_bytes(std::io::repeat(b'0')), File::Bytes(vec![b'0'; 8_001]));
 }
