@@ -1,5 +1,5 @@
 -- The day of a date: the place at which it stands in a list, and that a rising list has each date at one place.
-use Prim.Native.Nat.{ℕ, zero, suc, _+_, _*_, _≤_, _<_}
+use Prim.Native.Nat.{ℕ, zero, suc, _+_, _≤_, _<_}
 use mathlib.Core.Path.{_≡_, refl, sym, ap, _∙_}
 use mathlib.Core.Bool.{Bool, true, false}
 use mathlib.Core.List.{List, [], _∷_}
@@ -11,7 +11,6 @@ use Rattle.choice.specs.Choice.{choose}
 use Rattle.decimal.proofs.Choices.{held}
 use Rattle.contract.specs.declared.types.Date.{Date}
 use Rattle.calendar.specs.Days.{sameDate, dayFrom, numberOf, RisingFrom, Stands}
-use Rattle.calendar.specs.declared.types.Day.{Day}
 use Rattle.calendar.specs.declared.types.Day.the-variants.{On, NoDay}
 
 false-true : false ≡ true → ⊥

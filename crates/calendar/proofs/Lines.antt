@@ -6,12 +6,10 @@ use mathlib.Core.Logic.{_⊎_, ⊎-elim, inl, inr}
 use mathlib.Core.List.{List, [], _∷_, _++_, append-nil}
 use native.Mathlib.Omega.{arith}
 use lib.ListN.{length, drop, length-drop, drop-of-length-le}
-use lib.Seq.{drop-length}
 use lib.Dec.{leb, ltb, eqb}
 use borrow.Author.Tests.{le-leb, lt-leb, lt-ltb, eq-eqb, ne-eqb, ltb-true, leb-true, eqb-true}
 use Rattle.choice.specs.Choice.{choose}
 use Rattle.decimal.specs.Scan.{onScanned, byteAt}
-use Rattle.decimal.specs.declared.Scanned.{Scanned}
 use Rattle.decimal.specs.declared.Scanned.the-variants.{Next, Broken}
 use Rattle.decimal.proofs.Choices.{held}
 use Rattle.decimal.proofs.Places.{here-next, here-in}
@@ -76,7 +74,7 @@ unfolding lineEnd choose
 end-none s at e = rw (eq-eqb at (length s) e)
 
 -- ---- a line
--- what followed a date that is in the calendar goes to the last argument
+-- what followed a date that there is goes to the last argument
 after-accepted : {A R : Type 0} (x y : A) → (x ≡ y → ⊥) → (d : Date) (fine : A) → onVerdict (dateVerdict d) fine (λ r. x) ≡ y → (CalendarDate d → fine ≡ y → R) → R
 unfolding dateVerdict onVerdict choose
 after-accepted {A} {R} x y f d fine e g = by-test (isDate d) refl e

@@ -1,7 +1,7 @@
 -- What is promised of the trading calendar (RULES, "Trading calendar").
-use Prim.Native.Nat.{ℕ, zero, suc, _+_, _*_, _/_, _%_, _≤_, _<_}
+use Prim.Native.Nat.{ℕ, zero, suc, _+_, _≤_, _<_}
 use mathlib.Core.Path.{_≡_, refl, sym, ap, _∙_}
-use mathlib.Core.Logic.{_↔_}
+use mathlib.Core.Logic.{_↔_, _⊎_, ⊎-elim, inl, inr}
 use mathlib.Core.List.{List, [], _∷_}
 use native.Mathlib.Omega.{arith}
 use native.Mathlib.Decide.{decLt}
@@ -9,16 +9,25 @@ use lib.ListN.{length, take}
 use lib.Seq.{length-take-le, take-all}
 use Rattle.contract.specs.Date.{TwoDigitsEach}
 use Rattle.contract.specs.declared.types.Date.{Date}
-use Rattle.calendar.specs.Days.{dayOf, numberOf, Rising, maxDates, TradingDates, dateOf, Stands}
+use Rattle.calendar.specs.Days.{dayOf, Earlier, numberOf, Rising, maxDates, TradingDates, dateOf, Stands}
 use Rattle.calendar.specs.Text.{crlf, linesText, Says, ended, unended, maxText, Calendar, trading, broken, calendarOf}
+use Rattle.calendar.specs.File.{missing, unreadable, calendarBy}
 use Rattle.calendar.specs.declared.types.Day.the-variants.{On, NoDay}
 use Rattle.calendar.proofs.Days.{date-by, placed, day-at, none-at, none-stands, one-place-from}
 use Rattle.calendar.proofs.Lines.{LineEnd, crlf-end, no-end, Told, lines-text, lines-read, lines-length}
 
 -- ---- the day of a date, in every list of dates
--- The day that a date gets is its place, and the first at which it stands.
-pub day-is-place : (ds : List Date) (d : Date) (i : ℕ) → dayOf ds d ≡ On i → Stands ds i d × ((j : ℕ) → Stands ds j d → i ≤ j)
-day-is-place ds d i e = let p = placed 0 ds d i e in let z : i ≡ p .place = omega (arith, p .day-is) in rw z (p .stands, p .first)
+-- A date gets the day that its place says, the first place at which it stands, and no other.
+pub day-is-place : (ds : List Date) (d : Date) (i : ℕ) → (dayOf ds d ≡ On i) ↔ (Stands ds i d × ((j : ℕ) → Stands ds j d → i ≤ j))
+day-is-place ds d i = (
+  λ e.
+      let p = placed 0 ds d i e in
+      let z : i ≡ p .place = omega (arith, p .day-is) in
+      rw z (p .stands, p .first),
+  λ s.
+      let z : 0 + i ≡ i = omega arith in
+      day-at 0 ds d i (s .0) (s .1) ∙ ap On z,
+)
 
 -- So a list of n dates gives days below n.
 stands-within : (ds : List Date) (d : Date) (i : ℕ) → Stands ds i d → i < length ds
@@ -27,7 +36,7 @@ stands-within (e ∷ es) d zero s = omega arith
 stands-within (e ∷ es) d (suc i) s = omega (arith, stands-within es d i s)
 
 pub day-within : (ds : List Date) (d : Date) (i : ℕ) → dayOf ds d ≡ On i → i < length ds
-day-within ds d i e = stands-within ds d i (day-is-place ds d i e .0)
+day-within ds d i e = stands-within ds d i (day-is-place ds d i .0 e .0)
 
 -- A date gets no day exactly where it isn't in the list.
 pub no-day : (ds : List Date) (d : Date) → (dayOf ds d ≡ NoDay) ↔ ((i : ℕ) → Stands ds i d → ⊥)
@@ -44,9 +53,7 @@ one-place ds r d i j s t = one-place-from 0 ds d i j r s t
 
 -- and a date in the list gets the day that its place says.
 pub day-of-place : (ds : List Date) → Rising ds → (d : Date) (i : ℕ) → Stands ds i d → dayOf ds d ≡ On i
-day-of-place ds r d i s =
-    let z : 0 + i ≡ i = omega arith in
-    day-at 0 ds d i s (λ m t. omega (arith, one-place ds r d i m s t)) ∙ ap On z
+day-of-place ds r d i s = day-is-place ds d i .1 (s, λ m t. omega (arith, one-place ds r d i m s t))
 
 -- ---- reading, of every list of bytes
 told : (text : List ℕ) (ds : List Date) → Says text ds → Told text ds
@@ -108,7 +115,38 @@ first-bytes-tell text = by-length (decLt maxText (length text))
         ∙ sym (too-many-bytes text h)
     by-length (no h) = ap calendarOf (take-all (maxText + 1) text (omega arith))
 
+-- ---- the file
+-- No such file is an empty calendar, and one that can't be read is none.
+pub missing-file : calendarBy missing ≡ trading []
+unfolding calendarBy
+missing-file = refl
+
+pub unreadable-file : calendarBy unreadable ≡ broken
+unfolding calendarBy
+unreadable-file = refl
+
 -- ---- dates and their numbers
+-- Of dates of two digits each the earlier has the smaller number.
+pub in-order : (d e : Date) → TwoDigitsEach d → TwoDigitsEach e → (numberOf d < numberOf e) ↔ Earlier d e
+in-order d e s t = (
+  λ h. by-year h (decLt (d .year) (e .year)),
+  λ h. ⊎-elim (λ y. omega (arith, s .day, s .month, t .day, t .month))
+      (λ p. ⊎-elim (λ m. omega (arith, p .0, s .day, t .day)) (λ q. omega (arith, p .0, q .0, q .1)) (p .1)) h,
+)
+  where
+    by-month : numberOf d < numberOf e → d .year ≡ e .year → Dec (d .month < e .month)
+        → (d .month < e .month) ⊎ ((d .month ≡ e .month) × (d .day < e .day))
+    by-month h y (yes m) = inl m
+    by-month h y (no m) =
+        let z : d .month ≡ e .month = omega (arith, h, y, m, s .day, t .day) in
+        inr (z, omega (arith, h, y, z))
+
+    by-year : numberOf d < numberOf e → Dec (d .year < e .year) → Earlier d e
+    by-year h (yes y) = inl y
+    by-year h (no y) =
+        let z : d .year ≡ e .year = omega (arith, h, y, s .day, s .month, t .day, t .month) in
+        inr (z, by-month h z (decLt (d .month) (e .month)))
+
 -- The number of a date says that date: so every list of dates of two digits each can be lent.
 pub date-of-number : (d : Date) → TwoDigitsEach d → dateOf (numberOf d) ≡ d
 date-of-number d t =

@@ -1,24 +1,23 @@
 -- Steps of the search for a date and of the reader of lines, as their turns and returns ask them.
-use Prim.Native.Nat.{ℕ, zero, suc, _+_, _-_, _*_, _/_, _%_, _≤_, _<_}
+use Prim.Native.Nat.{ℕ, zero, suc, _+_, _-_, _≤_, _<_}
 use mathlib.Core.Path.{_≡_, refl, sym, ap, _∙_}
 use mathlib.Core.Bool.{Bool, true, false}
-use mathlib.Core.List.{List, [], _∷_, _++_, map, append-nil, append-assoc, map-append}
+use mathlib.Core.List.{List, [], _∷_, _++_, append-nil, append-assoc, map-append}
 use native.Mathlib.Numerals.{add-one}
 use native.Mathlib.Omega.{arith}
 use lib.ListN.{length, getD, take, drop, set, length-set, drop-of-length-le}
 use lib.Seq.{take-suc-set}
-use lib.Dec.{eqb}
-use borrow.Author.Tests.{le-leb, lt-leb, le-ltb, lt-ltb, ne-eqb, eq-eqb}
+use borrow.Author.Tests.{le-leb, lt-leb, le-ltb, lt-ltb}
 use Rattle.choice.specs.Choice.{choose}
 use Rattle.decimal.proofs.Places.{drop-next}
-use Rattle.contract.specs.Date.{TwoDigitsEach, isDate, onDate}
+use Rattle.contract.specs.Date.{TwoDigitsEach, onDate}
 use Rattle.contract.specs.declared.types.Date.{Date}
 use Rattle.contract.specs.declared.types.DateRead.{DateRead}
 use Rattle.contract.specs.declared.types.DateRead.the-variants.{Dated, Undated}
 use Rattle.contract.proofs.DateField.{dated, undated}
 use Rattle.contract.proofs.Scanning.{scanned-next, scanned-broken}
 use Rattle.contract.proofs.WholeLayout.{is-accepted, is-refused}
-use Rattle.calendar.specs.Days.{sameDate, dayFrom, dayOf, numberOf, maxDates, dateOf, datesOf}
+use Rattle.calendar.specs.Days.{sameDate, dayFrom, numberOf, maxDates, dateOf, datesOf}
 use Rattle.calendar.specs.Text.{Calendar, trading, broken, lineAt, onto, linesFrom, calendarOf, readAs, Few, ReadAs}
 use Rattle.calendar.specs.declared.types.Day.{Day}
 use Rattle.calendar.specs.declared.types.Day.the-variants.{On, NoDay}

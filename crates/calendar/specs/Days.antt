@@ -2,6 +2,7 @@
 use Prim.Native.Nat.{ℕ, zero, suc, _+_, _*_, _/_, _%_, _≤_, _<_}
 use mathlib.Core.Path.{_≡_}
 use mathlib.Core.Bool.{Bool, false}
+use mathlib.Core.Logic.{_⊎_}
 use mathlib.Core.List.{List, [], _∷_, map}
 use lib.ListN.{length}
 use lib.Dec.{eqb}
@@ -25,7 +26,11 @@ dayFrom i (e ∷ es) d = choose (sameDate e d) (On i) (dayFrom (i + 1) es d)
 abbrev pub dayOf : List Date → Date → Day
 dayOf ds d = dayFrom 0 ds d
 
--- A date as the number YYMMDD, by which dates are in order.
+-- one date is before another: by year, then month, then day
+abbrev pub Earlier : Date → Date → Type 0
+Earlier d e = (d .year < e .year) ⊎ ((d .year ≡ e .year) × ((d .month < e .month) ⊎ ((d .month ≡ e .month) × (d .day < e .day))))
+
+-- A date as the number YYMMDD, by which dates are in that order (`in-order`).
 abbrev pub numberOf : Date → ℕ
 numberOf d = d .year * 10000 + d .month * 100 + d .day
 

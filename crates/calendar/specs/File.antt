@@ -2,6 +2,7 @@
 use Prim.Native.Nat.{ℕ, _≤_}
 use mathlib.Core.Bool.{Bool}
 use mathlib.Core.List.{List, []}
+use lib.ListN.{take}
 use Rattle.choice.specs.Choice.{choose}
 use Rattle.calendar.specs.Text.{Calendar, trading, broken, calendarOf, ReadAs}
 use Rattle.calendar.specs.declared.types.CalendarRead.{CalendarRead}
@@ -26,12 +27,23 @@ calendarBy missing = trading []
 calendarBy (holds bytes) = calendarOf bytes
 calendarBy unreadable = broken
 
--- what is loaded is the calendar of what is found; that this is so in the folder nothing here says
+-- what is loaded is the calendar of what is found; whether the folder has such a file, nothing here says
 pub record Loaded (answer : CalendarRead) : Type 0 where
   pub file : File
   pub read : ReadAs answer (calendarBy file)
 
--- bytes that were read stand at the front of a buffer of n bytes
+-- by what opening it told: where it was opened, what it holds decides
+unfoldable pub LoadedBy : Opened → CalendarRead → Type 0
+LoadedBy Missing answer = ReadAs answer (calendarBy missing)
+LoadedBy Unreadable answer = ReadAs answer (calendarBy unreadable)
+LoadedBy Readable answer = Loaded answer
+
+-- by what reading it gave: bytes at the front of a buffer, or a read that failed
+unfoldable pub fileOf : Contents → List ℕ → File
+fileOf (Bytes n) buffer = holds (take n buffer)
+fileOf NotRead buffer = unreadable
+
+-- these bytes stand in a buffer of n bytes
 unfoldable pub InBuffer : ℕ → Contents → Type 0
 InBuffer n (Bytes count) = count ≤ n
 InBuffer n NotRead = Unit {0}

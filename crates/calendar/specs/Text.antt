@@ -69,11 +69,12 @@ linesFrom (suc room) s before at =
 unfoldable pub calendarOf : List ℕ → Calendar
 calendarOf s = linesFrom maxDates s 0 0
 
--- what the reader answers: the dates that the first of its numbers say, no more than it has numbers
+-- what the reader answers: the dates that the first of its numbers say
 unfoldable pub readAs : Reading → List ℕ → Calendar
 readAs (Dates n) numbers = trading (datesOf (take n numbers))
 readAs NoCalendar numbers = broken
 
+-- no more than it has numbers
 unfoldable pub Few : Reading → Type 0
 Few (Dates n) = n ≤ maxDates
 Few NoCalendar = Unit {0}

@@ -25,7 +25,7 @@ pub enum Contents {
     NotRead,
 }
 
-// The file of the calendar: there is none, it can be read, or it is there and can't be read.
+// The file of the calendar: there is none, it was opened, or it is there and can't be opened.
 pub enum Opened {
     Missing,
     Readable,

@@ -10,7 +10,9 @@ use stream::types::Input;
 ghost use mathlib.Core.Path.{_≡_};
 ghost use lib.ListN.{length, replicate};
 ghost use Rattle.calendar.specs.Days.{maxDates};
-ghost use Rattle.calendar.specs.File.{openedBy, Loaded, InBuffer};
+ghost use Prim.Native.Nat.{_+_};
+ghost use Rattle.calendar.specs.File.{openedBy, calendarBy, fileOf, Loaded, LoadedBy, InBuffer};
+ghost use Rattle.calendar.specs.Text.{maxText, ReadAs};
 
 // What an attempt to open it tells: whether it failed, and whether for want of such a file.
 fn opened(failed: bool, missing: bool) -> Opened
@@ -56,23 +58,45 @@ fn without_dates(reading: Reading) -> CalendarRead
     }
 }
 
-// The calendar that a file holds, read through a buffer.
-fn read_through(fd: i32, buf: &mut [u8]) -> CalendarRead
-    ensures { λ r. ⌜ Loaded r ⌝ }
+// The calendar that was read into a buffer.
+fn of_contents(found: Contents, buf: &[u8]) -> CalendarRead
+    requires { ⌜ InBuffer (length (now buf)) found ⌝ }
+    ensures { λ r. ⌜ ReadAs r (calendarBy (fileOf found (now (buf .entry)))) ⌝ }
 {
-    let Contents::Bytes(n) = contents(fd, buf) else {
+    let Contents::Bytes(n) = found else {
         return without_dates(Reading::NoCalendar);
     };
     calendar_reader::read(&buf[..n])
 }
 
-// A byte more than those of the longest calendar is read, and no more.
+// The calendar that a file holds: a byte more than those of the longest calendar is asked for, and no more.
+fn read_through(fd: i32, buf: &mut [u8]) -> CalendarRead
+    requires { ⌜ length (now buf) ≡ maxText + 1 ⌝ }
+    ensures { λ r. ⌜ Loaded r ⌝ }
+{
+    let found = contents(fd, buf);
+    of_contents(found, buf)
+}
+
 fn read_file(fd: i32) -> CalendarRead
     ensures { λ r. ⌜ Loaded r ⌝ }
 {
     let mut space = [0; MAX_TEXT + 1];
     let buf: &mut [u8] = &mut space;
-    read_through(fd, buf)
+    let read = read_through(fd, buf);
+    libc::close(fd);
+    read
+}
+
+// The calendar by what opening its file told.
+fn load_by(found: Opened, fd: i32) -> CalendarRead
+    ensures { λ r. ⌜ LoadedBy found r ⌝ }
+{
+    match found {
+        Opened::Missing => without_dates(Reading::Dates(0)),
+        Opened::Unreadable => without_dates(Reading::NoCalendar),
+        Opened::Readable => read_file(fd),
+    }
 }
 
 // The calendar of the file calendar.txt: without dates where there is none, and no calendar where it can't be read.
@@ -81,13 +105,6 @@ pub fn load() -> CalendarRead
 {
     let fd = os::open_read(b"calendar.txt");
     let missing = os::errno() == libc::ENOENT;
-    match opened(fd < 0, missing) {
-        Opened::Missing => without_dates(Reading::Dates(0)),
-        Opened::Unreadable => without_dates(Reading::NoCalendar),
-        Opened::Readable => {
-            let read = read_file(fd);
-            libc::close(fd);
-            read
-        }
-    }
+    let found = opened(fd < 0, missing);
+    load_by(found, fd)
 }

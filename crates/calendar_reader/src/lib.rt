@@ -24,7 +24,7 @@ fn line_end(text: &[u8], at: usize) -> Scanned
     scan::expect(text, next, b'\n')
 }
 
-// A line: a date of the calendar, and the line's end.
+// A line: a date that there is, and the line's end.
 fn line(text: &[u8], at: usize) -> DateRead
     ensures { λ r. ⌜ r ≡ lineAt (now (text .entry)) at ⌝ }
 {

@@ -3,6 +3,7 @@
 use buffer_rows::pass;
 use buffers::fill;
 use buffers::flushed;
+use calendar::types::CalendarRead;
 use calendar::types::Reading;
 use row_step::answer_row;
 use stream::types::Input;
@@ -13,11 +14,12 @@ ghost use Prim.Native.Nat.{_≤_, _<_};
 ghost use mathlib.Core.Path.{_≡_};
 ghost use mathlib.Core.Bool.{true};
 ghost use lib.ListN.{length, take};
-ghost use Rattle.calendar.specs.Days.{datesOf};
+ghost use Rattle.calendar.specs.Days.{maxDates, datesOf};
+ghost use Rattle.calendar.specs.Text.{readAs, Few};
 ghost use Rattle.rows.specs.Cut.{keptBytes};
 ghost use Rattle.report.specs.Report.{noCalendar};
 ghost use Rattle.stream.specs.Input.{ending};
-ghost use Rattle.stream.specs.Output.{outputRoom, waitingRoom, Ready, TurnedBy, Turned, Replayed, Ran};
+ghost use Rattle.stream.specs.Output.{outputRoom, waitingRoom, Ready, TurnedBy, Turned, Replayed, RanBy, Ran};
 
 // The end of the input: what it left without CRLF is a row.
 fn last_row(calendar: &[u64], buf: &[u8], out: &mut [u8], replay: Replay, have: usize) -> Run
@@ -127,18 +129,26 @@ fn without_rows(out: &mut [u8]) -> Waiting
     }
 }
 
-// The rows are replayed with the calendar of its file; or none is, where that is refused.
-fn with_calendar(out: &mut [u8]) -> Waiting
-    requires { ⌜ outputRoom ≤ length (now out) ⌝ }
-    ensures { λ r. ⌜ (r .at ≤ waitingRoom) × Ran (now (out .exit)) r ⌝ }
+// The rows are replayed with the calendar that was read; or none is, where it is refused.
+fn run_by(read: CalendarRead, out: &mut [u8]) -> Waiting
+    requires { ⌜ (Few (read .reading)) × (length (read .numbers) ≡ maxDates) × (outputRoom ≤ length (now out)) ⌝ }
+    ensures { λ r. ⌜ (r .at ≤ waitingRoom) × RanBy (readAs (read .reading) (read .numbers)) (now (out .exit)) r ⌝ }
 {
-    let read = calendar_file::load();
     let numbers = read.numbers;
     let reading = read.reading;
     match reading {
         Reading::Dates(n) => with_input(&numbers[..n], out),
         Reading::NoCalendar => without_rows(out),
     }
+}
+
+// The whole program, but for the writing of what waits at its end.
+fn with_calendar(out: &mut [u8]) -> Waiting
+    requires { ⌜ outputRoom ≤ length (now out) ⌝ }
+    ensures { λ r. ⌜ (r .at ≤ waitingRoom) × Ran (now (out .exit)) r ⌝ }
+{
+    let read = calendar_file::load();
+    run_by(read, out)
 }
 
 fn main() {

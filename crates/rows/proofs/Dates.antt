@@ -19,8 +19,10 @@ use Rattle.calendar.proofs.Promises.{day-within}
 use Rattle.rows.specs.Cut.{maxRow}
 use Rattle.rows.specs.Row.{number, onCode, onDay, listing, datedListing, rowOf}
 use Rattle.rows.specs.Grammar.{Short, EachShort, Plain, listText, datedText, Says, numbers, list, dated}
-use Rattle.rows.specs.Promises.{answer, Dated, SameRow, other, listed, SameMarket}
+use Rattle.rows.specs.Promises.{answer, Dated, SameRow, other, refused, unlisted, listed, SameMarket}
+use Rattle.rows.specs.declared.types.Refusal.the-variants as refusal
 use Rattle.rows.specs.declared.types.Row.{Row}
+use Rattle.rows.specs.declared.types.Row.the-variants.{Refused}
 use Rattle.rows.proofs.Readers.{row-long}
 use Rattle.rows.proofs.RowTexts.{row-read, row-said}
 use Rattle.rows.proofs.Listings.{list-read, dated-read}
@@ -30,60 +32,64 @@ day-short : (calendar : List Date) → length calendar ≤ maxDates → (d : Dat
 day-short calendar few d day e =
     record { digits = omega (arith, length-below 2 day (omega (arith, few, day-within calendar d day e))) }
 
-module _ (calendar : List Date) (text : List ℕ) (tick : ℕ) where
+module _ (calendar : List Date) (text : List ℕ) (tick : ℕ) (short : Short tick) where
   module _ (n : ℕ) (t : Terms) (e : code.readCode text ≡ Code n t) where
     -- A row that ends after R lists as the row that gives the day of its code's date, with any calendar,
     pub listed-by-date : length calendar ≤ maxDates →
-        Short tick →
         (day : ℕ) →
         dayOf calendar (t .date) ≡ On day →
         (es : List Date) →
         rowOf calendar (datedText text tick) ≡ rowOf es (listText text tick day)
     unfolding listing datedListing onCode onDay
-    listed-by-date few short day d es =
+    listed-by-date few day d es =
         let same : datedListing calendar text tick ≡ listing text tick day = rw (e, d) in
         dated-read calendar text n t e tick (short, tt)
         ∙ same
         ∙ sym (list-read es text n t e tick day (short, (day-short calendar few (t .date) day d, tt)))
 
     -- and is 22 where the date isn't in the calendar.
-    pub no-trading-date : EachShort (tick ∷ []) → dayOf calendar (t .date) ≡ NoDay → answer (rowOf calendar (datedText text tick)) ≡ no.noTradingDate
-    unfolding datedListing onCode onDay answer number
-    no-trading-date short d = rw (dated-read calendar text n t e tick short, e, d)
+    undated-row : dayOf calendar (t .date) ≡ NoDay → rowOf calendar (datedText text tick) ≡ Refused refusal.NoTradingDate
+    unfolding datedListing onCode onDay
+    undated-row d = rw (dated-read calendar text n t e tick (short, tt), e, d)
+
+    pub no-trading-date : dayOf calendar (t .date) ≡ NoDay → answer (rowOf calendar (datedText text tick)) ≡ no.noTradingDate
+    unfolding answer number
+    no-trading-date d = rw (undated-row d)
 
   -- 17, 18 and 19 come before 22.
-  pub code-before-date : (r : codes.Refusal) →
-      length (datedText text tick) ≤ maxRow →
-      Plain text →
-      EachShort (tick ∷ []) →
-      code.readCode text ≡ NoCode r →
-      answer (rowOf calendar (datedText text tick)) ≡ code.number r
-  unfolding datedListing onCode answer number
-  code-before-date r room plain short e =
-      rw (row-read calendar (datedText text tick) (datedListing calendar text tick) room (dated text tick plain short refl), e)
+  module _ (plain : Plain text) (r : codes.Refusal) (e : code.readCode text ≡ NoCode r) (room : length (datedText text tick) ≤ maxRow) where
+    refused-row : rowOf calendar (datedText text tick) ≡ Refused (refusal.Code r)
+    unfolding datedListing onCode
+    refused-row =
+        rw (row-read calendar (datedText text tick) (datedListing calendar text tick) room (dated text tick plain (short, tt) refl), e)
+
+    pub code-before-date : answer (rowOf calendar (datedText text tick)) ≡ code.number r
+    unfolding answer number
+    code-before-date = rw refused-row
 
 -- ---- what the calendar leaves alone
--- one that two calendars read alike, where it is short enough
-said-by-both : (row : List ℕ) → ((ds es : List Date) (r : Row) → Says ds row r → Says es row r) → (ds es : List Date) → rowOf ds row ≡ rowOf es row
-said-by-both row alike ds es = by-length (decLt maxRow (length row))
+-- rows of which each of two calendars has one answer while they are short enough
+by-length : (row : List ℕ) (ds es : List Date) → (length row ≤ maxRow → rowOf ds row ≡ rowOf es row) → rowOf ds row ≡ rowOf es row
+by-length row ds es f = by-test (decLt maxRow (length row))
   where
-    by-length : Dec (maxRow < length row) → rowOf ds row ≡ rowOf es row
-    by-length (yes h) = sym (row-long ds row h) ∙ row-long es row h
-    by-length (no h) =
-        let room : length row ≤ maxRow = omega arith in
-        ⊎-elim
-        (λ p. ⊎-elim (λ q. sym q ∙ p) (λ s. sym (row-read es row (rowOf ds row) room (alike ds es (rowOf ds row) s))) (row-said ds row room))
-        (λ s. row-read ds row (rowOf es row) room (alike es ds (rowOf es row) s))
-        (row-said es row room)
+    by-test : Dec (maxRow < length row) → rowOf ds row ≡ rowOf es row
+    by-test (yes h) = sym (row-long ds row h) ∙ row-long es row h
+    by-test (no h) = f (omega arith)
 
 -- A calendar changes nothing but what rows say that end after R.
 said-alike : (row : List ℕ) → (Dated row → ⊥) → (ds es : List Date) (r : Row) → Says ds row r → Says es row r
 said-alike row f ds es r (numbers letter vs e n short t) = numbers letter vs e n short t
 said-alike row f ds es r (list text tick last plain short t) = list text tick last plain short t
-said-alike row f ds es r (dated text tick plain short t) = absurd (f (record { code = text; tick = tick; plain = plain; text = t }))
+said-alike row f ds es r (dated text tick plain short t) =
+    absurd (f (record { code = text; tick = tick; plain = plain; short = short .0; text = t }))
 
 pub other-rows : (row : List ℕ) → (Dated row → ⊥) → (ds es : List Date) → rowOf ds row ≡ rowOf es row
-other-rows row f = said-by-both row (said-alike row f)
+other-rows row f ds es =
+    by-length row ds es (λ room.
+    ⊎-elim
+    (λ p. ⊎-elim (λ q. sym q ∙ p) (λ s. sym (row-read es row (rowOf ds row) room (said-alike row f ds es (rowOf ds row) s))) (row-said ds row room))
+    (λ s. row-read ds row (rowOf es row) room (said-alike row f es ds (rowOf es row) s))
+    (row-said es row room))
 
 -- A row that gives its last day is as it would be without a calendar.
 pub last-day-given : (text : List ℕ) (tick last : ℕ) →
@@ -96,14 +102,26 @@ last-day-given text tick last room plain short calendar =
     row-read calendar (listText text tick last) (listing text tick last) room (list text tick last plain short refl)
 
 -- ---- a whole market
--- A market listed by dates says what the same market says listed by days, with any other calendar or with none.
+-- A market listed by dates says what the same market says listed by days, with another calendar or with none.
 module _ (ds : List Date) (few : length ds ≤ maxDates) (es : List Date) where
-  same-row : (x y : List ℕ) → SameRow ds x y → rowOf ds x ≡ rowOf es y
+  same-row : (x y : List ℕ) → SameRow ds es x y → rowOf ds x ≡ rowOf es y
   same-row x y (other f e) = other-rows x f ds es ∙ ap (rowOf es) e
-  same-row x y (listed text n t tick day p q short e d) =
-      ap (rowOf ds) p ∙ listed-by-date ds text tick n t e few short day d es ∙ sym (ap (rowOf es) q)
+  same-row x y (refused d r e q) =
+      by-length x ds es (λ room.
+      let long : length (datedText (d .code) (d .tick)) ≤ maxRow = rw (d .text) at room in
+      ap (rowOf ds) (d .text)
+      ∙ refused-row ds (d .code) (d .tick) (d .short) (d .plain) r e long
+      ∙ sym (ap (rowOf es) (d .text) ∙ refused-row es (d .code) (d .tick) (d .short) (d .plain) r e long))
+      ∙ ap (rowOf es) q
+  same-row x y (unlisted d n t e u v q) =
+      ap (rowOf ds) (d .text)
+      ∙ undated-row ds (d .code) (d .tick) (d .short) n t e u
+      ∙ sym (ap (rowOf es) (d .text) ∙ undated-row es (d .code) (d .tick) (d .short) n t e v)
+      ∙ ap (rowOf es) q
+  same-row x y (listed d n t day e u q) =
+      ap (rowOf ds) (d .text) ∙ listed-by-date ds (d .code) (d .tick) (d .short) n t e few day u es ∙ sym (ap (rowOf es) q)
 
-  pub same-market : (xs ys : List (List ℕ)) → SameMarket ds xs ys → map (rowOf ds) xs ≡ map (rowOf es) ys
+  pub same-market : (xs ys : List (List ℕ)) → SameMarket ds es xs ys → map (rowOf ds) xs ≡ map (rowOf es) ys
   same-market [] [] s = refl
   same-market [] (y ∷ ys) s = absurd s
   same-market (x ∷ xs) [] s = absurd s

@@ -81,7 +81,8 @@ strikeText = 19
 abbrev pub row : ℕ
 row = 20
 
--- calendar: the trading calendar isn't strictly rising, is too long or holds what is no date; printed as row 0 in place of all rows
+-- calendar: the trading calendar isn't strictly rising, is too long or holds what is no date, or its file can't be read; printed as row 0 in
+-- place of all rows
 abbrev pub calendar : ℕ
 calendar = 21
 

@@ -1,5 +1,4 @@
 -- `calendar_day::is_date` meets its contract.
-use mathlib.Core.Path.{refl}
 use Rattle.choice.proofs.Chain.{hit, past, tests}
 use Rattle.calendar.specs.Days.{sameDate}
 use Rattle.calendar_day.proofs.is_date.Statement.{statement}

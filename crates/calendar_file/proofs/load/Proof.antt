@@ -1,6 +1,6 @@
 -- `calendar_file::load` meets its contract.
 use borrow.Author.Needs.{needs}
-use Rattle.calendar.proofs.Files.{loaded-missing, loaded-unreadable}
+use Rattle.calendar.proofs.Files.{loaded-by}
 use Rattle.calendar_file.proofs.load.Statement.{statement}
 use Rattle.calendar_file.proofs.load.Tie as tie
 
@@ -16,35 +16,11 @@ errno-requires c κs = search needs
 opened-requires : tie.Need-opened-requires
 opened-requires c κs = search needs
 
-enum-told : tie.Need-enum-told
-enum-told c = search needs
-
-without-dates-requires : tie.Need-without-dates-requires
-without-dates-requires c κs = search needs
-
-enum-told-2 : tie.Need-enum-told-2
-enum-told-2 c = search needs
-
-without-dates-requires-2 : tie.Need-without-dates-requires-2
-without-dates-requires-2 c κs = search needs
-
-enum-told-3 : tie.Need-enum-told-3
-enum-told-3 c = search needs
-
-read-file-requires : tie.Need-read-file-requires
-read-file-requires c κs = search needs
-
-close-requires : tie.Need-close-requires
-close-requires c κs = search needs
+load-by-requires : tie.Need-load-by-requires
+load-by-requires c κs = search needs
 
 returns : tie.Need-returns
-returns c = search loaded-missing
-
-returns-2 : tie.Need-returns-2
-returns-2 c = search loaded-unreadable
-
-returns-3 : tie.Need-returns-3
-returns-3 c = search needs
+returns c = search loaded-by
 
 pub load-spec : {M : Type 1} → statement M
 load-spec =
@@ -54,13 +30,5 @@ load-spec =
     open-read-requires
     errno-requires
     opened-requires
-    enum-told
-    without-dates-requires
-    enum-told-2
-    without-dates-requires-2
-    enum-told-3
-    read-file-requires
-    close-requires
-    returns
-    returns-2
-    returns-3)
+    load-by-requires
+    returns)
