@@ -86,9 +86,9 @@ impl Census {
             [code] => self.count_if(is_20 && codes::read(code).is_ok(), "20 for a row that ends after its code"),
             [_, _, b""] => {
                 let without = rows::read(&row[..row.len() - 1], calendar);
-                self.count_if(without.is_ok(), "20 for a comma behind R");
+                self.count_if(is_20 && without.is_ok(), "20 for a comma behind R");
                 self.count_if(
-                    without == Err(Refusal::NoTradingDate),
+                    is_20 && without == Err(Refusal::NoTradingDate),
                     "20 for a comma behind R and a date without a day",
                 );
             }
@@ -127,7 +127,8 @@ impl Census {
         let Ok(terms) = codes::read(code) else { return };
         match calendar.day(terms.date) {
             Some(day) => self.take_trading_date(calendar, book, (day, tick), answer),
-            None => self.take_other_date(calendar, terms.date),
+            None if *answer == Err(Refusal::NoTradingDate) => self.take_other_date(calendar, terms.date),
+            None => {}
         }
     }
 
