@@ -4,7 +4,7 @@
 //! trading calendar.
 
 use std::fs;
-use std::io::{self, Read, Write};
+use std::io::{self, ErrorKind, Read, Write};
 use std::ops::Range;
 use std::os::fd::AsRawFd;
 use std::os::raw::c_int;
@@ -48,6 +48,24 @@ struct Options {
 }
 
 type Case = fn(&mut Comparison) -> Result<(), String>;
+
+/// Why a case that can't be run everywhere wasn't passed.
+enum Unpassed {
+    Failed(String),
+    Skipped(String),
+}
+
+impl From<String> for Unpassed {
+    fn from(why: String) -> Self {
+        Unpassed::Failed(why)
+    }
+}
+
+impl From<io::Error> for Unpassed {
+    fn from(error: io::Error) -> Self {
+        Unpassed::Failed(error.to_string())
+    }
+}
 
 struct Comparison {
     program: Program,
@@ -123,6 +141,14 @@ impl Comparison {
         }
     }
 
+    fn count_or_skip(&mut self, name: &str, result: Result<(), Unpassed>) {
+        match result {
+            Ok(()) => self.count(name, Ok(())),
+            Err(Unpassed::Failed(why)) => self.count(name, Err(why)),
+            Err(Unpassed::Skipped(why)) => println!("{name}: skipped, {why}"),
+        }
+    }
+
     fn markets(&mut self, seeds: Range<u64>, calendars: Range<u64>) {
         for seed in seeds.clone() {
             let result = self.market(seed);
@@ -150,7 +176,8 @@ impl Comparison {
             let result = case(self);
             self.count(name, result);
         }
-        self.forbidden_calendar();
+        let result = self.forbidden_calendar();
+        self.count_or_skip("calendar without the right to read it", result);
     }
 
     fn codes(&mut self, seeds: Range<u64>) {
@@ -339,17 +366,9 @@ impl Comparison {
         result
     }
 
-    fn forbidden_calendar(&mut self) {
-        let name = "calendar without the right to read it";
-        match self.run_without_the_right() {
-            Ok(end) => self.count(name, check_refused(end)),
-            Err(error) => println!("{name}: skipped, for the program can't be run so: {error}"),
-        }
-    }
-
     /// Where this process may read a calendar that nobody has the right to read, as root may, a copy of the program runs as
-    /// somebody else.
-    fn run_without_the_right(&self) -> io::Result<End> {
+    /// somebody else. It is skipped where this process has no right to start it so.
+    fn forbidden_calendar(&mut self) -> Result<(), Unpassed> {
         const SOMEBODY: u32 = 65_534;
         let mut folder = Folder::new("forbidden")?;
         folder.put(&File::Bytes(full_calendar()))?;
@@ -360,10 +379,17 @@ impl Comparison {
         }
         let program = Program::new(copy, folder);
         let mut command = program.command();
-        if fs::File::open(&calendar).is_ok() {
+        let as_somebody_else = fs::File::open(&calendar).is_ok();
+        if as_somebody_else {
             command.uid(SOMEBODY).gid(SOMEBODY);
         }
-        Ok(finish(command.stdin(Stdio::null()).spawn()?, AT_ONCE))
+        let child = match command.stdin(Stdio::null()).spawn() {
+            Err(error) if as_somebody_else && error.kind() == ErrorKind::PermissionDenied => {
+                return Err(Unpassed::Skipped(format!("for the program can't be run as somebody else: {error}")));
+            }
+            child => child?,
+        };
+        Ok(check_refused(finish(child, AT_ONCE))?)
     }
 }
 
