@@ -8,10 +8,10 @@ use std::io::{self, ErrorKind, Read, Write};
 use std::ops::Range;
 use std::os::fd::AsRawFd;
 use std::os::raw::c_int;
-use std::os::unix::fs::PermissionsExt;
+use std::os::unix::fs::{symlink, PermissionsExt};
 use std::os::unix::process::CommandExt;
-use std::path::PathBuf;
-use std::process::{ExitCode, ExitStatus, Stdio};
+use std::path::{Path, PathBuf};
+use std::process::{Command, ExitCode, ExitStatus, Stdio};
 use std::thread;
 use std::time::Duration;
 
@@ -162,11 +162,12 @@ impl Comparison {
             let result = self.days_for_dates(seed);
             self.count(&format!("market {seed} with days for dates"), result);
         }
-        let cases: [(&str, Case); 8] = [
+        let cases: [(&str, Case); 9] = [
             ("closed output", Self::closed_output),
             ("failed write", Self::failed_write),
             ("read error", Self::read_error),
             ("calendar that is a folder", Self::folder_for_a_calendar),
+            ("calendar that is a link to nowhere", Self::link_to_nowhere),
             ("calendar of a byte too many", Self::byte_too_many),
             ("calendar without end", Self::endless_calendar),
             ("calendar of 1,000 dates", Self::thousand_dates),
@@ -178,6 +179,8 @@ impl Comparison {
         }
         let result = self.forbidden_calendar();
         self.count_or_skip("calendar without the right to read it", result);
+        let result = self.pipe_for_a_calendar();
+        self.count_or_skip("calendar that is a pipe", result);
     }
 
     fn codes(&mut self, seeds: Range<u64>) {
@@ -320,6 +323,15 @@ impl Comparison {
         check_refused(self.program.run_on_file(ROWS))
     }
 
+    /// A link that leads nowhere is no file: a listing by date is 22, and other rows are answered as without a calendar.
+    fn link_to_nowhere(&mut self) -> Result<(), String> {
+        let folder = Folder::new("link").map_err(|error| error.to_string())?;
+        symlink("nowhere", folder.calendar_path()).map_err(|error| error.to_string())?;
+        let program = Program::new(self.program.path().into(), folder);
+        let input = b"L,A-1.00M010100CA1,1\r\nL,A-1.00M010100CA1,1,0\r\nT,0,1,2,3,4\r\nM,0,100,100,100000\r\nV\r\n";
+        check(program.run_on_file(input), input, &answers(&File::Missing, input))
+    }
+
     /// Behind the lines of a full calendar one byte more, whatever it is.
     fn byte_too_many(&mut self) -> Result<(), String> {
         for byte in [b'\r', b'\n', b'0', b' ', 0] {
@@ -345,9 +357,7 @@ impl Comparison {
     /// The last of 1,000 dates is day 999, with the last CRLF and without.
     fn thousand_dates(&mut self) -> Result<(), String> {
         let full = full_calendar();
-        let date = String::from_utf8_lossy(&full[MOST_BYTES - 8..][..6]).into_owned();
-        let evening = "M,0,100,100,100000\r\nV\r\n";
-        let input = format!("L,A-1.00M{date}CA1,1\r\nT,0,1,2,3,4\r\n{}", evening.repeat(1_001)).into_bytes();
+        let input = until_the_last_date(&full);
         for text in [&full[..], &full[..MOST_BYTES - 2]] {
             let file = File::Bytes(text.to_vec());
             self.put(&file)?;
@@ -391,6 +401,24 @@ impl Comparison {
         };
         Ok(check_refused(finish(child, AT_ONCE))?)
     }
+
+    /// A pipe is read to its end, as a file is.
+    fn pipe_for_a_calendar(&mut self) -> Result<(), Unpassed> {
+        let folder = Folder::new("pipe")?;
+        let path = folder.calendar_path();
+        match Command::new("mkfifo").arg(&path).status() {
+            Ok(status) => succeeded(status).map_err(|why| format!("mkfifo: {why}"))?,
+            Err(error) => return Err(Unpassed::Skipped(format!("for mkfifo can't be run: {error}"))),
+        }
+        let full = full_calendar();
+        let input = until_the_last_date(&full);
+        let file = File::Bytes(full.clone());
+        // To open one end is to wait for the other. Nobody waits for this thread, and for a program that nobody writes to
+        // there is an end to patience.
+        thread::spawn(move || fill(&path, &full));
+        let program = Program::new(self.program.path().into(), folder);
+        Ok(check(program.run_on_file(&input), &input, &answers(&file, &input))?)
+    }
 }
 
 /// An input for programs that have no need of it.
@@ -401,6 +429,23 @@ fn full_calendar() -> Vec<u8> {
     let months = (0..3).flat_map(|year| (1..=12).map(move |month| (year, month)));
     let dates = months.flat_map(|(year, month)| (1..=28).map(move |day| Date { year, month, day }));
     dates.take(MOST_DATES).flat_map(|date| format!("{date}\r\n").into_bytes()).collect()
+}
+
+/// A series by the last date of a full calendar, and evenings until nothing is left to be done.
+fn until_the_last_date(full: &[u8]) -> Vec<u8> {
+    let date = String::from_utf8_lossy(&full[MOST_BYTES - 8..][..6]);
+    let evening = "M,0,100,100,100000\r\nV\r\n";
+    format!("L,A-1.00M{date}CA1,1\r\nT,0,1,2,3,4\r\n{}", evening.repeat(1_001)).into_bytes()
+}
+
+/// Fills a named pipe and closes it. There is time to read each piece before the next one comes.
+fn fill(pipe: &Path, bytes: &[u8]) -> io::Result<()> {
+    let mut pipe = fs::OpenOptions::new().write(true).open(pipe)?;
+    for piece in bytes.chunks(999) {
+        pipe.write_all(piece)?;
+        thread::sleep(Duration::from_millis(5));
+    }
+    Ok(())
 }
 
 /// Listings by whatever six digits there are.

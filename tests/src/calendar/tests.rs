@@ -1,3 +1,5 @@
+use std::os::unix::fs::symlink;
+
 use super::*;
 use crate::program::Folder;
 
@@ -169,6 +171,9 @@ fn what_stands_under_the_calendars_name() {
         assert_eq!(File::at(&path), file);
     }
     assert_eq!(File::Unreadable.calendar(), Err(Refusal::Calendar));
+    folder.put(&File::Missing).unwrap();
+    symlink("nowhere", &path).unwrap();
+    assert_eq!(File::at(&path), File::Missing);
 }
 
 #[test]
