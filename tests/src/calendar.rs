@@ -23,7 +23,7 @@ pub struct Calendar {
 }
 
 impl Calendar {
-    pub fn of_dates(dates: Vec<Date>) -> Result<Self, Refusal> {
+    fn of_dates(dates: Vec<Date>) -> Result<Self, Refusal> {
         let is_sound = dates.len() <= MOST_DATES
             && dates.iter().all(|date| date.exists())
             && dates.windows(2).all(|pair| pair[0] < pair[1]);
@@ -65,7 +65,6 @@ fn date_of_line(line: &[u8]) -> Option<Date> {
 #[derive(Clone, Debug, PartialEq, Eq)]
 pub enum File {
     Missing,
-    /// Of a file that is too long for a calendar the first bytes, one more than a calendar can have.
     Bytes(Vec<u8>),
     /// A folder, or a file that one has no right to read.
     Unreadable,
@@ -85,6 +84,7 @@ impl File {
         }
     }
 
+    /// Of a file that is too long for a calendar one byte more than a calendar can have.
     fn first_bytes(file: impl Read) -> Self {
         let mut bytes = Vec::new();
         match file.take(MOST_BYTES as u64 + 1).read_to_end(&mut bytes) {

@@ -56,7 +56,7 @@ pub fn kind(seed: u64) -> Kind {
     KINDS[(seed % KINDS.len() as u64) as usize]
 }
 
-// Numbers of their own, so that what is drawn of calendars and dates leaves the other rows of a seed as they are.
+// Numbers of their own: what is drawn of calendars and dates uses up none of those that the other rows are drawn from.
 const CALENDARS: u64 = 1 << 62;
 const DATES: u64 = 1 << 63;
 

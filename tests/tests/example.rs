@@ -97,7 +97,8 @@ fn the_day_of_the_codes_date_in_place_of_the_day() {
     }
     // For day 0 it expires on the first evening, with half of it exercised; for day 2 it is live after the second.
     assert!(with("150323").contains("\r\n6,F,0,1,5\r\n"));
-    assert!(!with("010100\r\n010200\r\n150323").contains(",F,"));
+    let without_futures: String = OUTPUT.split_inclusive('\n').filter(|line| !line.contains(",F,")).collect();
+    assert_eq!(with("010100\r\n010200\r\n150323"), crlf(&without_futures));
     for calendar in ["", "140323\r\n150324", "150423"] {
         assert!(with(calendar).starts_with("row,kind,series,account,amount\r\n1,A,,,22\r\n2,A,,,2\r\n"));
     }

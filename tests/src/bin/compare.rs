@@ -123,7 +123,7 @@ fn options(words: &[String]) -> Option<Options> {
         }
         _ => return None,
     };
-    // A path without a slash would be looked for elsewhere.
+    // The program runs in a folder of its own, where a path that isn't absolute may lead elsewhere.
     let program = fs::canonicalize(program).unwrap_or(program.into());
     Some(Options { subject, program, directory: directory.into(), seeds, calendars })
 }
@@ -204,10 +204,10 @@ impl Comparison {
         self.keep(&format!("market-{seed}"), &calendar, &input, check(end, &input, &expected))
     }
 
-    /// The whole output on a calendar that is refused, or might be. The rows ask for all dates that it might have.
+    /// The whole output on a calendar that is refused, or might be. The rows ask for the dates that it might have.
     fn odd_calendar(&mut self, seed: u64) -> Result<(), String> {
         let calendar = odd_calendar(seed);
-        let input = listings_by_all_dates(&calendar);
+        let input = listings_by_its_dates(&calendar);
         let expected = answers(&calendar, &input);
         self.put(&calendar)?;
         let end = self.program.run_on_file(&input);
@@ -448,8 +448,8 @@ fn fill(pipe: &Path, bytes: &[u8]) -> io::Result<()> {
     Ok(())
 }
 
-/// Listings by whatever six digits there are.
-fn listings_by_all_dates(calendar: &File) -> Vec<u8> {
+/// Listings by whatever six digits there are, 60 at most.
+fn listings_by_its_dates(calendar: &File) -> Vec<u8> {
     let File::Bytes(bytes) = calendar else { return ROWS.to_vec() };
     let dates = bytes.windows(6).filter(|digits| digits.iter().all(u8::is_ascii_digit));
     dates.take(60).flat_map(|date| [b"L,A-1.00M", date, b"CA1,1\r\n"].concat()).collect()
