@@ -10,7 +10,8 @@ ghost use Prim.Native.Nat.{_≤_, _<_, _+_};
 ghost use mathlib.Core.Path.{_≡_};
 ghost use mathlib.Core.List.{_++_};
 ghost use lib.ListN.{length, take, drop};
-ghost use Rattle.report.specs.Report.{answerOf};
+ghost use mathlib.Core.Bool.{true};
+ghost use Rattle.report.specs.Report.{answerOf, noCalendar};
 ghost use Rattle.rows.specs.Cut.{keptBytes, kept};
 ghost use Rattle.stream.specs.Input.{InRoom};
 ghost use Rattle.stream.specs.Output.{outputRoom, waitingRoom};
@@ -88,4 +89,16 @@ pub fn put_answer(out: &mut [u8], at: usize, row: u64, answer: Answer, intact: b
 {
     let end = row_lines::answered(out, at, row, answer);
     flushed(out, end, intact)
+}
+
+// Where the calendar is refused, that stands in place of all rows.
+pub fn without_rows(out: &mut [u8]) -> Waiting
+    requires { ⌜ outputRoom ≤ length (now out) ⌝ }
+    ensures { λ r. ⌜ (r .at ≤ waitingRoom) × (take (r .at) (now (out .exit)) ≡ noCalendar) × (r .intact ≡ true) ⌝ }
+{
+    let next = lines::no_calendar(out);
+    Waiting {
+        at: next,
+        intact: true,
+    }
 }

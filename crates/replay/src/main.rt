@@ -3,6 +3,7 @@
 use buffer_rows::pass;
 use buffers::fill;
 use buffers::flushed;
+use buffers::without_rows;
 use calendar::types::CalendarRead;
 use calendar::types::Reading;
 use row_step::answer_row;
@@ -12,12 +13,10 @@ use stream::types::Run;
 use stream::types::Waiting;
 ghost use Prim.Native.Nat.{_≤_, _<_};
 ghost use mathlib.Core.Path.{_≡_};
-ghost use mathlib.Core.Bool.{true};
 ghost use lib.ListN.{length, take};
 ghost use Rattle.calendar.specs.Days.{maxDates, datesOf};
 ghost use Rattle.calendar.specs.Text.{readAs, Few};
 ghost use Rattle.rows.specs.Cut.{keptBytes};
-ghost use Rattle.report.specs.Report.{noCalendar};
 ghost use Rattle.stream.specs.Input.{ending};
 ghost use Rattle.stream.specs.Output.{outputRoom, waitingRoom, Ready, TurnedBy, Turned, Replayed, RanBy, Ran};
 
@@ -115,18 +114,6 @@ fn with_input(calendar: &[u64], out: &mut [u8]) -> Waiting
     let mut space = io::large_buffer();
     let buf: &mut [u8] = &mut space;
     replayed(calendar, buf, out)
-}
-
-// Where the calendar is refused, that stands in place of all rows.
-fn without_rows(out: &mut [u8]) -> Waiting
-    requires { ⌜ outputRoom ≤ length (now out) ⌝ }
-    ensures { λ r. ⌜ (r .at ≤ waitingRoom) × (take (r .at) (now (out .exit)) ≡ noCalendar) × (r .intact ≡ true) ⌝ }
-{
-    let end = lines::no_calendar(out);
-    Waiting {
-        at: end,
-        intact: true,
-    }
 }
 
 // The rows are replayed with the calendar that was read; or none is, where it is refused.

@@ -1,10 +1,10 @@
--- `replay::without_rows` meets its contract.
+-- `buffers::without_rows` meets its contract.
 use borrow.Author.Needs.{needs}
 use mathlib.Core.Path.{refl}
 use native.Mathlib.Omega.{arith}
 use Rattle.stream.proofs.Lines.{put-behind}
-use Rattle.replay.proofs.without_rows.Statement.{statement}
-use Rattle.replay.proofs.without_rows.Tie as tie
+use Rattle.buffers.proofs.without_rows.Statement.{statement}
+use Rattle.buffers.proofs.without_rows.Tie as tie
 
 no-calendar-requires : tie.Need-no-calendar-requires
 no-calendar-requires c κs = search needs
