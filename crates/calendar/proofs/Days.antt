@@ -2,6 +2,7 @@
 use Prim.Native.Nat.{ℕ, zero, suc, _+_, _≤_, _<_}
 use mathlib.Core.Path.{_≡_, refl, sym, ap, _∙_}
 use mathlib.Core.Bool.{Bool, true, false}
+use mathlib.Core.Logic.{inl, inr}
 use mathlib.Core.List.{List, [], _∷_}
 use native.Mathlib.Nat.{add-zero}
 use native.Mathlib.Omega.{arith}
@@ -10,7 +11,7 @@ use borrow.Author.Tests.{eq-eqb, eqb-true}
 use Rattle.choice.specs.Choice.{choose}
 use Rattle.decimal.proofs.Choices.{held}
 use Rattle.contract.specs.declared.types.Date.{Date}
-use Rattle.calendar.specs.Days.{sameDate, dayFrom, numberOf, RisingFrom, Stands}
+use Rattle.calendar.specs.Days.{sameDate, dayFrom, EarlierInYear, Earlier, Rising, Stands}
 use Rattle.calendar.specs.declared.types.Day.the-variants.{On, NoDay}
 
 false-true : false ≡ true → ⊥
@@ -116,16 +117,38 @@ none-stands i (e ∷ es) d p m s = by-test (sameDate e d) refl p (none-stands (i
     by-test false q p ih (suc m) s = ih p m s
 
 -- ---- rising dates
-later-number : (n : ℕ) (ds : List Date) (d : Date) (m : ℕ) → RisingFrom n ds → Stands ds m d → n < numberOf d
-later-number n [] d m r s = absurd s
-later-number n (e ∷ es) d zero r s = rw (← s) (r .0)
-later-number n (e ∷ es) d (suc m) r s = omega (arith, r .0, later-number (numberOf e) es d m (r .1) s)
+-- A date before another is before all that come after that one,
+month-then : (d e f : Date) → EarlierInYear d e → EarlierInYear e f → EarlierInYear d f
+month-then d e f (inl m) (inl n) = inl (omega (arith, m, n))
+month-then d e f (inl m) (inr q) = inl (omega (arith, m, q .0))
+month-then d e f (inr p) (inl n) = inl (omega (arith, p .0, n))
+month-then d e f (inr p) (inr q) = inr (p .0 ∙ q .0, omega (arith, p .1, q .1))
 
-pub one-place-from : (n : ℕ) (ds : List Date) (d : Date) (j k : ℕ) → RisingFrom n ds → Stands ds j d → Stands ds k d → j ≡ k
-one-place-from n [] d j k r s t = absurd s
-one-place-from n (e ∷ es) d zero zero r s t = refl
-one-place-from n (e ∷ es) d zero (suc k) r s t =
-    absurd (omega (arith, later-number (numberOf e) es d k (r .1) t, ap numberOf s))
-one-place-from n (e ∷ es) d (suc j) zero r s t =
-    absurd (omega (arith, later-number (numberOf e) es d j (r .1) s, ap numberOf t))
-one-place-from n (e ∷ es) d (suc j) (suc k) r s t = ap suc (one-place-from (numberOf e) es d j k (r .1) s t)
+earlier-then : (d e f : Date) → Earlier d e → Earlier e f → Earlier d f
+earlier-then d e f (inl y) (inl z) = inl (omega (arith, y, z))
+earlier-then d e f (inl y) (inr q) = inl (omega (arith, y, q .0))
+earlier-then d e f (inr p) (inl z) = inl (omega (arith, p .0, z))
+earlier-then d e f (inr p) (inr q) = inr (p .0 ∙ q .0, month-then d e f (p .1) (q .1))
+
+-- and none is before itself.
+not-earlier : (d : Date) → Earlier d d → ⊥
+not-earlier d (inl y) = omega (arith, y)
+not-earlier d (inr (y, inl m)) = omega (arith, m)
+not-earlier d (inr (y, inr (m, h))) = omega (arith, h)
+
+others-rise : (d : Date) (ds : List Date) → Rising (d ∷ ds) → Rising ds
+others-rise d [] r = tt
+others-rise d (e ∷ ds) r = r .1
+
+-- the first is before every other
+first-earlier : (d : Date) (ds : List Date) (e : Date) (m : ℕ) → Rising (d ∷ ds) → Stands ds m e → Earlier d e
+first-earlier d [] e m r s = absurd s
+first-earlier d (x ∷ ds) e zero r s = rw s at (r .0)
+first-earlier d (x ∷ ds) e (suc m) r s = earlier-then d x e (r .0) (first-earlier x ds e m (r .1) s)
+
+pub one-place-in : (ds : List Date) (d : Date) (j k : ℕ) → Rising ds → Stands ds j d → Stands ds k d → j ≡ k
+one-place-in [] d j k r s t = absurd s
+one-place-in (e ∷ es) d zero zero r s t = refl
+one-place-in (e ∷ es) d zero (suc k) r s t = absurd (not-earlier d (rw s at (first-earlier e es d k r t)))
+one-place-in (e ∷ es) d (suc j) zero r s t = absurd (not-earlier d (rw t at (first-earlier e es d j r s)))
+one-place-in (e ∷ es) d (suc j) (suc k) r s t = ap suc (one-place-in es d j k (others-rise e es r) s t)

@@ -21,7 +21,7 @@ use Rattle.contract.specs.declared.types.Verdict.the-variants.{Accepted, Refuse
 use Rattle.contract.specs.declared.types.DateRead.the-variants.{Dated, Undated}
 use Rattle.contract.proofs.DateField.{date-is, date-in, date-read, date-text, date-accepted, after-date, after-date-text}
 use Rattle.contract.proofs.Scanning.{after-scanned, broken-next, byte-read, byte-text}
-use Rattle.calendar.specs.Days.{numberOf, RisingFrom, EachDate}
+use Rattle.calendar.specs.Days.{numberOf, EachDate}
 use Rattle.calendar.specs.Text.{crlf, linesText, Calendar, trading, broken, lineEnd, lineAt, onto, linesFrom}
 
 -- ---- the ends of a line
@@ -127,6 +127,11 @@ pub record Told (text : List ℕ) (ds : List Date) : Type 0 where
   pub end : List ℕ
   pub is-end : LineEnd end
   pub says : text ≡ linesText end ds
+
+-- the numbers of dates rise, the first above n: so the reader goes about it
+abbrev pub RisingFrom : ℕ → List Date → Type 0
+RisingFrom n [] = Unit {0}
+RisingFrom n (d ∷ ds) = (n < numberOf d) × RisingFrom (numberOf d) ds
 
 pub record Lines (room : ℕ) (text : List ℕ) (before : ℕ) (ds : List Date) : Type 0 where
   pub few : length ds ≤ room

@@ -9,12 +9,12 @@ use lib.ListN.{length, take}
 use lib.Seq.{length-take-le, take-all}
 use Rattle.contract.specs.Date.{TwoDigitsEach}
 use Rattle.contract.specs.declared.types.Date.{Date}
-use Rattle.calendar.specs.Days.{dayOf, Earlier, numberOf, Rising, maxDates, TradingDates, dateOf, Stands}
+use Rattle.calendar.specs.Days.{dayOf, EarlierInYear, Earlier, Rising, maxDates, EachDate, TradingDates, numberOf, dateOf, Stands}
 use Rattle.calendar.specs.Text.{crlf, linesText, Says, ended, unended, maxText, Calendar, trading, broken, calendarOf}
 use Rattle.calendar.specs.File.{missing, unreadable, calendarBy}
 use Rattle.calendar.specs.declared.types.Day.the-variants.{On, NoDay}
-use Rattle.calendar.proofs.Days.{date-by, placed, day-at, none-at, none-stands, one-place-from}
-use Rattle.calendar.proofs.Lines.{LineEnd, crlf-end, no-end, Told, lines-text, lines-read, lines-length}
+use Rattle.calendar.proofs.Days.{date-by, placed, day-at, none-at, none-stands, one-place-in}
+use Rattle.calendar.proofs.Lines.{LineEnd, crlf-end, no-end, Told, RisingFrom, lines-text, lines-read, lines-length}
 
 -- ---- the day of a date, in every list of dates
 -- A date gets the day that its place says, the first place at which it stands, and no other.
@@ -49,11 +49,56 @@ one-day ds d i j p q = let z : On i ≡ On j = sym p ∙ q in cc
 -- ---- in every list that is strictly rising
 -- No date stands at two places,
 pub one-place : (ds : List Date) → Rising ds → (d : Date) (i j : ℕ) → Stands ds i d → Stands ds j d → i ≡ j
-one-place ds r d i j s t = one-place-from 0 ds d i j r s t
+one-place ds r d i j s t = one-place-in ds d i j r s t
 
 -- and a date in the list gets the day that its place says.
 pub day-of-place : (ds : List Date) → Rising ds → (d : Date) (i : ℕ) → Stands ds i d → dayOf ds d ≡ On i
 day-of-place ds r d i s = day-is-place ds d i .1 (s, λ m t. omega (arith, one-place ds r d i m s t))
+
+-- ---- dates and their numbers
+-- Of dates of two digits each the earlier has the smaller number.
+pub in-order : (d e : Date) → TwoDigitsEach d → TwoDigitsEach e → (numberOf d < numberOf e) ↔ Earlier d e
+in-order d e s t = (
+  λ h. by-year h (decLt (d .year) (e .year)),
+  λ h. ⊎-elim (λ y. omega (arith, s .day, s .month, t .day, t .month))
+      (λ p. ⊎-elim (λ m. omega (arith, p .0, s .day, t .day)) (λ q. omega (arith, p .0, q .0, q .1)) (p .1)) h,
+)
+  where
+    by-month : numberOf d < numberOf e → d .year ≡ e .year → Dec (d .month < e .month) → EarlierInYear d e
+    by-month h y (yes m) = inl m
+    by-month h y (no m) =
+        let z : d .month ≡ e .month = omega (arith, h, y, m, s .day, t .day) in
+        inr (z, omega (arith, h, y, z))
+
+    by-year : numberOf d < numberOf e → Dec (d .year < e .year) → Earlier d e
+    by-year h (yes y) = inl y
+    by-year h (no y) =
+        let z : d .year ≡ e .year = omega (arith, h, y, s .day, s .month, t .day, t .month) in
+        inr (z, by-month h z (decLt (d .month) (e .month)))
+
+-- The number of a date says that date: so every list of dates of two digits each can be lent.
+pub date-of-number : (d : Date) → TwoDigitsEach d → dateOf (numberOf d) ≡ d
+date-of-number d t =
+    date-by (dateOf (numberOf d)) d
+    (omega (arith, t .day, t .month))
+    (omega (arith, t .day, t .month))
+    (omega (arith, t .day, t .month))
+
+-- So the dates of a calendar rise where their numbers do, the first of which is above 0.
+dates-rise : (n : ℕ) (ds : List Date) → EachDate ds → RisingFrom n ds → Rising ds
+dates-rise n [] t r = tt
+dates-rise n (d ∷ []) t r = tt
+dates-rise n (d ∷ e ∷ ds) t r =
+    (in-order d e (t .0 .1) (t .1 .0 .1) .0 (r .1 .0), dates-rise (numberOf d) (e ∷ ds) (t .1) (r .1))
+
+numbers-rise : (n : ℕ) (d : Date) (ds : List Date) → n < numberOf d → EachDate (d ∷ ds) → Rising (d ∷ ds) → RisingFrom n (d ∷ ds)
+numbers-rise n d [] h t r = (h, tt)
+numbers-rise n d (e ∷ ds) h t r =
+    (h, numbers-rise (numberOf d) e ds (in-order d e (t .0 .1) (t .1 .0 .1) .1 (r .0)) (t .1) (r .1))
+
+all-numbers-rise : (ds : List Date) → EachDate ds → Rising ds → RisingFrom 0 ds
+all-numbers-rise [] t r = tt
+all-numbers-rise (d ∷ ds) t r = numbers-rise 0 d ds (omega (arith, t .0 .0 .first)) t r
 
 -- ---- reading, of every list of bytes
 told : (text : List ℕ) (ds : List Date) → Says text ds → Told text ds
@@ -73,10 +118,10 @@ unfolding calendarOf
 calendar-read text ds = (
   λ e.
       let l = lines-text maxDates text 0 0 ds e in
-      (record { few = l .few; dates = l .dates; rising = l .rising }, says text ds (l .told)),
+      (record { few = l .few; dates = l .dates; rising = dates-rise 0 ds (l .dates) (l .rising) }, says text ds (l .told)),
   λ p.
       let t = told text ds (p .1) in
-      lines-read maxDates text 0 0 (t .end) ds (t .is-end) (p .0 .few) (p .0 .dates) (p .0 .rising) (t .says),
+      lines-read maxDates text 0 0 (t .end) ds (t .is-end) (p .0 .few) (p .0 .dates) (all-numbers-rise ds (p .0 .dates) (p .0 .rising)) (t .says),
 )
 
 -- Else they are no calendar, which is 21.
@@ -124,33 +169,3 @@ missing-file = refl
 pub unreadable-file : calendarBy unreadable ≡ broken
 unfolding calendarBy
 unreadable-file = refl
-
--- ---- dates and their numbers
--- Of dates of two digits each the earlier has the smaller number.
-pub in-order : (d e : Date) → TwoDigitsEach d → TwoDigitsEach e → (numberOf d < numberOf e) ↔ Earlier d e
-in-order d e s t = (
-  λ h. by-year h (decLt (d .year) (e .year)),
-  λ h. ⊎-elim (λ y. omega (arith, s .day, s .month, t .day, t .month))
-      (λ p. ⊎-elim (λ m. omega (arith, p .0, s .day, t .day)) (λ q. omega (arith, p .0, q .0, q .1)) (p .1)) h,
-)
-  where
-    by-month : numberOf d < numberOf e → d .year ≡ e .year → Dec (d .month < e .month)
-        → (d .month < e .month) ⊎ ((d .month ≡ e .month) × (d .day < e .day))
-    by-month h y (yes m) = inl m
-    by-month h y (no m) =
-        let z : d .month ≡ e .month = omega (arith, h, y, m, s .day, t .day) in
-        inr (z, omega (arith, h, y, z))
-
-    by-year : numberOf d < numberOf e → Dec (d .year < e .year) → Earlier d e
-    by-year h (yes y) = inl y
-    by-year h (no y) =
-        let z : d .year ≡ e .year = omega (arith, h, y, s .day, s .month, t .day, t .month) in
-        inr (z, by-month h z (decLt (d .month) (e .month)))
-
--- The number of a date says that date: so every list of dates of two digits each can be lent.
-pub date-of-number : (d : Date) → TwoDigitsEach d → dateOf (numberOf d) ≡ d
-date-of-number d t =
-    date-by (dateOf (numberOf d)) d
-    (omega (arith, t .day, t .month))
-    (omega (arith, t .day, t .month))
-    (omega (arith, t .day, t .month))

@@ -27,21 +27,17 @@ abbrev pub dayOf : List Date → Date → Day
 dayOf ds d = dayFrom 0 ds d
 
 -- one date is before another: by year, then month, then day
+abbrev pub EarlierInYear : Date → Date → Type 0
+EarlierInYear d e = (d .month < e .month) ⊎ ((d .month ≡ e .month) × (d .day < e .day))
+
 abbrev pub Earlier : Date → Date → Type 0
-Earlier d e = (d .year < e .year) ⊎ ((d .year ≡ e .year) × ((d .month < e .month) ⊎ ((d .month ≡ e .month) × (d .day < e .day))))
+Earlier d e = (d .year < e .year) ⊎ ((d .year ≡ e .year) × EarlierInYear d e)
 
--- A date as the number YYMMDD, by which dates are in that order (`in-order`).
-abbrev pub numberOf : Date → ℕ
-numberOf d = d .year * 10000 + d .month * 100 + d .day
-
--- "strictly rising": each date is after the one before it, the first after the number n
-abbrev pub RisingFrom : ℕ → List Date → Type 0
-RisingFrom n [] = Unit {0}
-RisingFrom n (d ∷ ds) = (n < numberOf d) × RisingFrom (numberOf d) ds
-
--- 0 is before every date
+-- "strictly rising": each date is before the next
 abbrev pub Rising : List Date → Type 0
-Rising ds = RisingFrom 0 ds
+Rising [] = Unit {0}
+Rising (d ∷ []) = Unit {0}
+Rising (d ∷ e ∷ ds) = Earlier d e × Rising (e ∷ ds)
 
 -- "a list of at most 1,000 dates"
 abbrev pub maxDates : ℕ
@@ -57,7 +53,11 @@ pub record TradingDates (ds : List Date) : Type 0 where
   pub dates : EachDate ds
   pub rising : Rising ds
 
--- The list as it is lent: the dates that numbers YYMMDD say.
+-- A date as the number YYMMDD: of dates of two digits each the earlier has the smaller number (`in-order`).
+abbrev pub numberOf : Date → ℕ
+numberOf d = d .year * 10000 + d .month * 100 + d .day
+
+-- The list as it is lent: the dates that such numbers say (`date-of-number`).
 abbrev pub dateOf : ℕ → Date
 dateOf n = record { day = n % 100; month = n / 100 % 100; year = n / 10000 }
 
