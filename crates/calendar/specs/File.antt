@@ -17,9 +17,9 @@ pub data File : Type 0 where
   holds : List ℕ → File
   unreadable : File
 
--- by what an attempt to open it tells: whether it failed, and whether for want of such a file
-unfoldable pub openedBy : Bool → Bool → Opened
-openedBy failed none = choose failed (choose none Missing Unreadable) Readable
+-- by what an attempt to open it tells: that it was opened, or whether for want of such a file it was not; a link that leads nowhere is there
+unfoldable pub openedBy : Bool → Bool → Bool → Opened
+openedBy opened link none = choose opened Readable (choose link Unreadable (choose none Missing Unreadable))
 
 -- "No such file: an empty calendar"; 21 "where the file is there and can't be read"
 unfoldable pub calendarBy : File → Calendar

@@ -6,6 +6,7 @@ use calendar::types::CalendarRead;
 use calendar::types::Contents;
 use calendar::types::Opened;
 use calendar::types::Reading;
+use libc::PATH_MAX;
 use stream::types::Input;
 ghost use mathlib.Core.Path.{_≡_};
 ghost use lib.ListN.{length, replicate};
@@ -13,18 +14,25 @@ ghost use Rattle.calendar.specs.Days.{maxDates};
 ghost use Prim.Native.Nat.{_+_};
 ghost use Rattle.calendar.specs.File.{openedBy, calendarBy, fileOf, Loaded, LoadedBy, InBuffer};
 ghost use Rattle.calendar.specs.Text.{maxText, ReadAs};
+ghost use Rattle.libc.specs.Io.{Ended};
 
-// What an attempt to open it tells: whether it failed, and whether for want of such a file.
-fn opened(failed: bool, missing: bool) -> Opened
-    ensures { λ r. ⌜ r ≡ openedBy failed missing ⌝ }
+// The last byte of a path.
+const LAST: usize = PATH_MAX - 1;
+
+// What an attempt to open it tells: that it was opened; or else whether a link has its name, and whether it failed for want of such a file.
+fn opened(readable: bool, link: bool, missing: bool) -> Opened
+    ensures { λ r. ⌜ r ≡ openedBy readable link missing ⌝ }
 {
-    if failed {
-        if missing {
-            return Opened::Missing;
-        }
+    if readable {
+        return Opened::Readable;
+    }
+    if link {
         return Opened::Unreadable;
     }
-    Opened::Readable
+    if missing {
+        return Opened::Missing;
+    }
+    Opened::Unreadable
 }
 
 // Reads until the file ends or the buffer is full.
@@ -99,12 +107,38 @@ fn load_by(found: Opened, fd: i32) -> CalendarRead
     }
 }
 
+// A name as C reads it: its bytes, and then zeros.
+fn path_of(name: &[u8]) -> [u8; PATH_MAX]
+    ensures { λ r. ⌜ Ended r ⌝ }
+{
+    let mut path = io::buffer();
+    let mut i = 0;
+    while i < name.len() {
+        if i >= LAST {
+            break;
+        }
+        path[i] = name[i];
+        i += 1;
+    }
+    path[LAST] = 0;
+    path
+}
+
+// Whether a link has this name, wherever it leads.
+fn is_link(name: &[u8]) -> bool {
+    let path = path_of(name);
+    let mut text = [0; 1];
+    libc::readlink(&path, &mut text) >= 0
+}
+
 // The calendar of the file calendar.txt: without dates where there is none, and no calendar where it can't be read.
 pub fn load() -> CalendarRead
     ensures { λ r. ⌜ Loaded r ⌝ }
 {
-    let fd = os::open_read(b"calendar.txt");
+    let name: &[u8] = b"calendar.txt";
+    let fd = os::open_read(name);
     let missing = os::errno() == libc::ENOENT;
-    let found = opened(fd < 0, missing);
+    let link = is_link(name);
+    let found = opened(fd >= 0, link, missing);
     load_by(found, fd)
 }

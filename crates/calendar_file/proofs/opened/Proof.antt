@@ -16,5 +16,9 @@ returns-3 : tie.Need-returns-3
 unfolding openedBy
 returns-3 c = search (hit, past, tests)
 
+returns-4 : tie.Need-returns-4
+unfolding openedBy
+returns-4 c = search (hit, past, tests)
+
 pub opened-spec : {M : Type 1} → statement M
-opened-spec = tie.close (tie.spec returns returns-2 returns-3)
+opened-spec = tie.close (tie.spec returns returns-2 returns-3 returns-4)
