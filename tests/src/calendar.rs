@@ -66,7 +66,7 @@ fn date_of_line(line: &[u8]) -> Option<Date> {
 pub enum File {
     Missing,
     Bytes(Vec<u8>),
-    /// A folder, or a file that one has no right to read.
+    /// A folder, a file that one has no right to read, or a link that leads nowhere.
     Unreadable,
 }
 
@@ -79,7 +79,7 @@ impl File {
     pub fn at(path: &Path) -> Self {
         match fs::File::open(path) {
             Ok(file) => File::first_bytes(file),
-            Err(error) if error.kind() == ErrorKind::NotFound => File::Missing,
+            Err(_) if is_free(path) => File::Missing,
             Err(_) => File::Unreadable,
         }
     }
@@ -100,6 +100,11 @@ impl File {
             File::Unreadable => Err(Refusal::Calendar),
         }
     }
+}
+
+/// Whether nothing has the name. To open a link that leads nowhere fails as if nothing had.
+fn is_free(path: &Path) -> bool {
+    fs::symlink_metadata(path).is_err_and(|error| error.kind() == ErrorKind::NotFound)
 }
 
 #[cfg(test)]

@@ -162,12 +162,13 @@ impl Comparison {
             let result = self.days_for_dates(seed);
             self.count(&format!("market {seed} with days for dates"), result);
         }
-        let cases: [(&str, Case); 9] = [
+        let cases: [(&str, Case); 10] = [
             ("closed output", Self::closed_output),
             ("failed write", Self::failed_write),
             ("read error", Self::read_error),
             ("calendar that is a folder", Self::folder_for_a_calendar),
             ("calendar that is a link to nowhere", Self::link_to_nowhere),
+            ("calendar that is a link to a calendar", Self::link_to_a_calendar),
             ("calendar of a byte too many", Self::byte_too_many),
             ("calendar without end", Self::endless_calendar),
             ("calendar of 1,000 dates", Self::thousand_dates),
@@ -323,13 +324,26 @@ impl Comparison {
         check_refused(self.program.run_on_file(ROWS))
     }
 
-    /// A link that leads nowhere is no file: a listing by date is 22, and other rows are answered as without a calendar.
+    /// A link that leads nowhere is there and can't be read: it is not taken for no calendar.
     fn link_to_nowhere(&mut self) -> Result<(), String> {
+        check_refused(self.run_with_link("nowhere", ROWS))
+    }
+
+    /// A link is read as the file that it leads to.
+    fn link_to_a_calendar(&mut self) -> Result<(), String> {
+        let full = full_calendar();
+        let input = until_the_last_date(&full);
+        let end = self.run_with_link("dates.txt", &input);
+        check(end, &input, &answers(&File::Bytes(full), &input))
+    }
+
+    /// In a folder where a full calendar is named `dates.txt`, and the calendar's name is that of a link.
+    fn run_with_link(&self, target: &str, input: &[u8]) -> End {
         let folder = Folder::new("link").map_err(|error| error.to_string())?;
-        symlink("nowhere", folder.calendar_path()).map_err(|error| error.to_string())?;
-        let program = Program::new(self.program.path().into(), folder);
-        let input = b"L,A-1.00M010100CA1,1\r\nL,A-1.00M010100CA1,1,0\r\nT,0,1,2,3,4\r\nM,0,100,100,100000\r\nV\r\n";
-        check(program.run_on_file(input), input, &answers(&File::Missing, input))
+        let linked = fs::write(folder.path().join("dates.txt"), full_calendar())
+            .and_then(|()| symlink(target, folder.calendar_path()));
+        linked.map_err(|error| error.to_string())?;
+        Program::new(self.program.path().into(), folder).run_on_file(input)
     }
 
     /// Behind the lines of a full calendar one byte more, whatever it is.

@@ -172,8 +172,13 @@ fn what_stands_under_the_calendars_name() {
     }
     assert_eq!(File::Unreadable.calendar(), Err(Refusal::Calendar));
     folder.put(&File::Missing).unwrap();
-    symlink("nowhere", &path).unwrap();
-    assert_eq!(File::at(&path), File::Missing);
+    fs::write(folder.path().join("dates.txt"), "150323\r\n").unwrap();
+    let dates = File::Bytes(b"150323\r\n".to_vec());
+    for (target, file) in [("nowhere", File::Unreadable), (FILE_NAME, File::Unreadable), ("dates.txt", dates)] {
+        symlink(target, &path).unwrap();
+        assert_eq!(File::at(&path), file, "{target}");
+        fs::remove_file(&path).unwrap();
+    }
 }
 
 #[test]
