@@ -11,20 +11,22 @@ use Rattle.contract.specs.Code as code
 use Rattle.contract.specs.declared.types.Date.{Date}
 use Rattle.contract.specs.declared.types.Refusal as codes
 use Rattle.contract.specs.declared.types.Terms.{Terms}
+use Rattle.contract.specs.declared.types.Read.{Read}
 use Rattle.contract.specs.declared.types.Read.the-variants.{Code, NoCode}
 use Rattle.decimal.proofs.Numerals.{length-below}
-use Rattle.calendar.specs.Days.{dayOf, maxDates}
+use Rattle.calendar.specs.Days.{dayFrom, dayOf, maxDates}
+use Rattle.calendar.specs.declared.types.Day.{Day}
 use Rattle.calendar.specs.declared.types.Day.the-variants.{On, NoDay}
 use Rattle.calendar.proofs.Promises.{day-within}
 use Rattle.rows.specs.Cut.{maxRow}
 use Rattle.rows.specs.Row.{number, onCode, onDay, listing, datedListing, rowOf}
 use Rattle.rows.specs.Grammar.{Short, EachShort, Plain, listText, datedText, Says, numbers, list, dated}
-use Rattle.rows.specs.Promises.{answer, Dated, SameRow, other, refused, unlisted, listed, SameMarket}
+use Rattle.rows.specs.Promises.{answer, Dated, SameRow, other, refused, unlisted, listed, SameMarket, ByDays}
 use Rattle.rows.specs.declared.types.Refusal.the-variants as refusal
 use Rattle.rows.specs.declared.types.Row.{Row}
 use Rattle.rows.specs.declared.types.Row.the-variants.{Refused}
 use Rattle.rows.proofs.Readers.{row-long}
-use Rattle.rows.proofs.RowTexts.{row-read, row-said}
+use Rattle.rows.proofs.RowTexts.{dated-or-not, row-read, row-said}
 use Rattle.rows.proofs.Listings.{list-read, dated-read}
 
 -- a day of a calendar is a number that a row can give
@@ -126,3 +128,23 @@ module _ (ds : List Date) (few : length ds ≤ maxDates) (es : List Date) where
   same-market [] (y ∷ ys) s = absurd s
   same-market (x ∷ xs) [] s = absurd s
   same-market (x ∷ xs) (y ∷ ys) s = ap₂ _∷_ (same-row x y (s .0)) (same-market xs ys (s .1))
+
+-- Every market has one that is listed by days, and needs no calendar.
+no-dates : (d : Date) → dayOf [] d ≡ NoDay
+unfolding dayFrom
+no-dates d = refl
+
+by-days-row : (ds : List Date) (x : List ℕ) {R : Type 0} → ((y : List ℕ) → SameRow ds [] x y → R) → R
+by-days-row ds x {R} g = ⊎-elim (λ d. by-code d (code.readCode (d .code)) refl) (λ f. g x (other f refl)) (dated-or-not x)
+  where
+    by-day : (d : Dated x) (n : ℕ) (t : Terms) → code.readCode (d .code) ≡ Code n t → (day : Day) → dayOf ds (t .date) ≡ day → R
+    by-day d n t e (On day) u = g (listText (d .code) (d .tick) day) (listed d n t day e u refl)
+    by-day d n t e NoDay u = g x (unlisted d n t e u (no-dates (t .date)) refl)
+
+    by-code : (d : Dated x) (c : Read) → code.readCode (d .code) ≡ c → R
+    by-code d (Code n t) e = by-day d n t e (dayOf ds (t .date)) refl
+    by-code d (NoCode r) e = g x (refused d r e refl)
+
+pub by-days : (ds : List Date) (xs : List (List ℕ)) → ByDays ds xs
+by-days ds [] = record { rows = []; same = tt }
+by-days ds (x ∷ xs) = by-days-row ds x (λ y s. record { rows = y ∷ by-days ds xs .rows; same = (s, by-days ds xs .same) })
