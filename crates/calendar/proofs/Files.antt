@@ -1,12 +1,13 @@
 -- The file of the calendar: what is loaded of it.
-use Prim.Native.Nat.{ℕ, _≤_}
-use mathlib.Core.Path.{_≡_, refl}
-use mathlib.Core.List.{List}
+use Prim.Native.Nat.{ℕ, _+_, _-_, _≤_, _<_}
+use mathlib.Core.Path.{_≡_, refl, sym, ap, _∙_}
+use mathlib.Core.List.{List, _++_}
 use native.Mathlib.Omega.{arith}
-use lib.ListN.{length, take, replicate, length-replicate}
+use lib.ListN.{length, getD, take, drop, replicate, length-replicate, getD-replicate}
+use lib.Seq.{sets-eq, getD-append-add, getD-drop}
 use Rattle.calendar.specs.Days.{maxDates}
-use Rattle.calendar.specs.Text.{calendarOf, readAs, Few, ReadAs}
-use Rattle.calendar.specs.File.{missing, unreadable, calendarBy, Loaded, LoadedBy, fileOf, InBuffer}
+use Rattle.calendar.specs.Text.{maxText, calendarOf, readAs, Few, ReadAs}
+use Rattle.calendar.specs.File.{missing, unreadable, calendarBy, fileOf, InBuffer, LoadedFrom, LoadedBy, Loaded, maxPath, pathOf}
 use Rattle.calendar.specs.declared.types.CalendarRead.{CalendarRead}
 use Rattle.calendar.specs.declared.types.Contents.{Contents}
 use Rattle.calendar.specs.declared.types.Contents.the-variants.{Bytes, NotRead}
@@ -49,8 +50,8 @@ module _ {r : CalendarRead} (found : Contents) (buffer : List ℕ) where
   unfolding fileOf
   read-failed e q = rw (e, q) none-read
 
-  pub read-file : ReadAs r (calendarBy (fileOf found buffer)) → Loaded r
-  read-file h = record { file = fileOf found buffer; read = h }
+  pub read-file : (n : ℕ) → length buffer ≡ n → n ≡ maxText + 1 → InBuffer n found → ReadAs r (calendarBy (fileOf found buffer)) → LoadedFrom r
+  read-file n e l w h = record { contents = found; buffer = buffer; room = e ∙ l; within = same-buffer _ _ found e w; read = h }
 
 -- by what opening it told
 module _ {r : CalendarRead} (found : Opened) where
@@ -62,7 +63,7 @@ module _ {r : CalendarRead} (found : Opened) where
   unfolding LoadedBy
   loaded-unreadable e q = rw (e, q) none-read
 
-  pub loaded-readable : found ≡ Readable → Loaded r → LoadedBy found r
+  pub loaded-readable : found ≡ Readable → LoadedFrom r → LoadedBy found r
   unfolding LoadedBy
   loaded-readable e h = rw e h
 
@@ -70,4 +71,21 @@ pub loaded-by : {r : CalendarRead} (found : Opened) → LoadedBy found r → Loa
 unfolding LoadedBy
 loaded-by Missing h = record { file = missing; read = h }
 loaded-by Unreadable h = record { file = unreadable; read = h }
-loaded-by Readable h = h
+loaded-by Readable h = record { file = fileOf (h .contents) (h .buffer); read = h .read }
+
+-- ---- its name: a name that leaves room for a 0 ends in one
+pub path-ended : (name : List ℕ) → length name < maxPath → getD (pathOf name) (maxPath - 1) 1 ≡ 0
+path-ended name h =
+    let zeros : List ℕ = replicate maxPath 0 in
+    let rest : ℕ = maxPath - 1 - length name in
+    let before : maxPath - 1 ≡ length name + rest = omega (arith, h) in
+    let behind : 0 + length name + rest ≡ maxPath - 1 = omega (arith, h) in
+    ap (λ (l : List ℕ). getD l (maxPath - 1) 1) (sets-eq name zeros 0 (omega (arith, h, length-replicate {A = ℕ} maxPath 0)))
+    ∙ ap (λ (k : ℕ). getD (name ++ drop (0 + length name) zeros) k 1) before
+    ∙ getD-append-add name (drop (0 + length name) zeros) rest 1
+    ∙ getD-drop (0 + length name) zeros rest 1
+    ∙ ap (λ (k : ℕ). getD zeros k 1) behind
+    ∙ getD-replicate maxPath (maxPath - 1) 0 1 (omega arith)
+
+pub path-ends : (name path : List ℕ) → path ≡ pathOf name → length name < maxPath → getD path (maxPath - 1) 1 ≡ 0
+path-ends name path e h = ap (λ (l : List ℕ). getD l (maxPath - 1) 1) e ∙ path-ended name h

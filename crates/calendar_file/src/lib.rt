@@ -8,16 +8,12 @@ use calendar::types::Opened;
 use calendar::types::Reading;
 use libc::PATH_MAX;
 use stream::types::Input;
+ghost use Prim.Native.Nat.{_+_, _<_};
 ghost use mathlib.Core.Path.{_≡_};
 ghost use lib.ListN.{length, replicate};
 ghost use Rattle.calendar.specs.Days.{maxDates};
-ghost use Prim.Native.Nat.{_+_};
-ghost use Rattle.calendar.specs.File.{openedBy, calendarBy, fileOf, Loaded, LoadedBy, InBuffer};
 ghost use Rattle.calendar.specs.Text.{maxText, ReadAs};
-ghost use Rattle.libc.specs.Io.{Ended};
-
-// The last byte of a path.
-const LAST: usize = PATH_MAX - 1;
+ghost use Rattle.calendar.specs.File.{openedBy, fileOf, InBuffer, calendarBy, LoadedFrom, LoadedBy, Loaded, maxPath, pathOf};
 
 // What an attempt to open it tells: that it was opened; or else whether a link has its name, and whether it failed for want of such a file.
 fn opened(readable: bool, link: bool, missing: bool) -> Opened
@@ -80,14 +76,14 @@ fn of_contents(found: Contents, buf: &[u8]) -> CalendarRead
 // The calendar that a file holds: a byte more than those of the longest calendar is asked for, and no more.
 fn read_through(fd: i32, buf: &mut [u8]) -> CalendarRead
     requires { ⌜ length (now buf) ≡ maxText + 1 ⌝ }
-    ensures { λ r. ⌜ Loaded r ⌝ }
+    ensures { λ r. ⌜ LoadedFrom r ⌝ }
 {
     let found = contents(fd, buf);
     of_contents(found, buf)
 }
 
 fn read_file(fd: i32) -> CalendarRead
-    ensures { λ r. ⌜ Loaded r ⌝ }
+    ensures { λ r. ⌜ LoadedFrom r ⌝ }
 {
     let mut space = [0; MAX_TEXT + 1];
     let buf: &mut [u8] = &mut space;
@@ -109,23 +105,19 @@ fn load_by(found: Opened, fd: i32) -> CalendarRead
 
 // A name as C reads it: its bytes, and then zeros.
 fn path_of(name: &[u8]) -> [u8; PATH_MAX]
-    ensures { λ r. ⌜ Ended r ⌝ }
+    requires { ⌜ length (now name) < maxPath ⌝ }
+    ensures { λ r. ⌜ r ≡ pathOf (now (name .entry)) ⌝ }
 {
-    let mut path = io::buffer();
-    let mut i = 0;
-    while i < name.len() {
-        if i >= LAST {
-            break;
-        }
-        path[i] = name[i];
-        i += 1;
-    }
-    path[LAST] = 0;
+    let mut path = [0; PATH_MAX];
+    let out: &mut [u8] = &mut path;
+    put::bytes(out, 0, name);
     path
 }
 
 // Whether a link has this name, wherever it leads.
-fn is_link(name: &[u8]) -> bool {
+fn is_link(name: &[u8]) -> bool
+    requires { ⌜ length (now name) < maxPath ⌝ }
+{
     let path = path_of(name);
     let mut text = [0; 1];
     libc::readlink(&path, &mut text) >= 0
