@@ -1,5 +1,5 @@
 -- The day of a date: the place at which it stands in a list, and that a rising list has each date at one place.
-use Prim.Native.Nat.{ℕ, zero, suc, _+_, _≤_, _<_}
+use Prim.Native.Nat.{ℕ, zero, suc, _+_, _≤_}
 use mathlib.Core.Path.{_≡_, refl, sym, ap, _∙_}
 use mathlib.Core.Bool.{Bool, true, false}
 use mathlib.Core.Logic.{inl, inr}
@@ -17,7 +17,7 @@ use Rattle.calendar.specs.declared.types.Day.the-variants.{On, NoDay}
 false-true : false ≡ true → ⊥
 false-true e = let z : _≡_ {A = ℕ} 0 1 = cc in omega arith
 
-pub none-on : (i : ℕ) → NoDay ≡ On i → ⊥
+none-on : (i : ℕ) → NoDay ≡ On i → ⊥
 none-on i e = let z : _≡_ {A = ℕ} 0 1 = cc in omega arith
 
 -- ---- the same date

@@ -1,15 +1,15 @@
 -- What is promised of the trading calendar (RULES, "Trading calendar").
 use Prim.Native.Nat.{ℕ, zero, suc, _+_, _≤_, _<_}
-use mathlib.Core.Path.{_≡_, refl, sym, ap, _∙_}
+use mathlib.Core.Path.{_≡_, refl, sym, ap, ap₂, _∙_}
 use mathlib.Core.Logic.{_↔_, _⊎_, ⊎-elim, inl, inr}
-use mathlib.Core.List.{List, [], _∷_}
+use mathlib.Core.List.{List, [], _∷_, map}
 use native.Mathlib.Omega.{arith}
 use native.Mathlib.Decide.{decLt}
 use lib.ListN.{length, take}
 use lib.Seq.{length-take-le, take-all}
 use Rattle.contract.specs.Date.{TwoDigitsEach}
 use Rattle.contract.specs.declared.types.Date.{Date}
-use Rattle.calendar.specs.Days.{dayOf, EarlierInYear, Earlier, Rising, maxDates, EachDate, TradingDates, numberOf, dateOf, Stands}
+use Rattle.calendar.specs.Days.{dayOf, EarlierInYear, Earlier, Rising, maxDates, EachDate, TradingDates, numberOf, dateOf, datesOf, Stands}
 use Rattle.calendar.specs.Text.{crlf, linesText, Says, ended, unended, maxText, Calendar, trading, broken, calendarOf}
 use Rattle.calendar.specs.File.{missing, unreadable, calendarBy}
 use Rattle.calendar.specs.declared.types.Day.the-variants.{On, NoDay}
@@ -76,7 +76,7 @@ in-order d e s t = (
         let z : d .year ≡ e .year = omega (arith, h, y, s .day, s .month, t .day, t .month) in
         inr (z, by-month h z (decLt (d .month) (e .month)))
 
--- The number of a date says that date: so every list of dates of two digits each can be lent.
+-- The number of a date says that date,
 pub date-of-number : (d : Date) → TwoDigitsEach d → dateOf (numberOf d) ≡ d
 date-of-number d t =
     date-by (dateOf (numberOf d)) d
@@ -84,7 +84,12 @@ date-of-number d t =
     (omega (arith, t .day, t .month))
     (omega (arith, t .day, t .month))
 
--- So the dates of a calendar rise where their numbers do, the first of which is above 0.
+-- so that every list of a calendar's dates can be lent.
+pub dates-lent : (ds : List Date) → EachDate ds → datesOf (map numberOf ds) ≡ ds
+dates-lent [] t = refl
+dates-lent (d ∷ ds) t = ap₂ _∷_ (date-of-number d (t .0 .1)) (dates-lent ds (t .1))
+
+-- The dates of a calendar rise where their numbers do, the first of which is above 0.
 dates-rise : (n : ℕ) (ds : List Date) → EachDate ds → RisingFrom n ds → Rising ds
 dates-rise n [] t r = tt
 dates-rise n (d ∷ []) t r = tt

@@ -57,7 +57,7 @@ pub record TradingDates (ds : List Date) : Type 0 where
 abbrev pub numberOf : Date → ℕ
 numberOf d = d .year * 10000 + d .month * 100 + d .day
 
--- The list as it is lent: the dates that such numbers say (`date-of-number`).
+-- The list as it is lent: the dates that such numbers say (`dates-lent`).
 abbrev pub dateOf : ℕ → Date
 dateOf n = record { day = n % 100; month = n / 100 % 100; year = n / 10000 }
 

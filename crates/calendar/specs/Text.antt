@@ -66,6 +66,7 @@ linesFrom (suc room) s before at =
     (onDate (lineAt s at) broken (λ d n.
     choose (ltb before (numberOf d)) (onto d (linesFrom room s (numberOf d) n)) broken))
 
+-- what bytes say as a calendar, from the first line on: just the lines of trading dates are one (`calendar-read`)
 unfoldable pub calendarOf : List ℕ → Calendar
 calendarOf s = linesFrom maxDates s 0 0
 
