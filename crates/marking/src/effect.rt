@@ -1,7 +1,7 @@
 use crate::change;
-use crate::verdict::mark_verdict;
 use book::state::Effect;
 use book::state::Today;
+use mark_verdict::mark_verdict;
 use series::event::Quote;
 use series::refusal::Verdict;
 use series::state::Listing;

@@ -1,4 +1,3 @@
-// A mark: whether it may be made, what it does, and the mark itself.
+// A mark: what it does, and the mark itself.
 pub mod change; // change.rt: the mark of a series
 pub mod effect; // effect.rt: what a mark does
-pub mod verdict; // verdict.rt: whether it may be made

@@ -1,8 +1,8 @@
-use crate::verdict::decline_verdict;
-use crate::verdict::exercise_verdict;
 use book::state::Effect;
 use book::state::Today;
 use places::PLACES;
+use request_verdict::decline_verdict;
+use request_verdict::exercise_verdict;
 use series::event::Request;
 use series::event::Waiver;
 use series::refusal::Verdict;

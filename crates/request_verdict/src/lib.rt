@@ -1,4 +1,4 @@
-// The conditions, tested in the order of the refusals' numbers.
+// Whether a request to exercise or a decline may be made: the conditions, tested in the order of the refusals' numbers.
 use account_places::place_of;
 use book::state::Today;
 use holders::held;

@@ -1,4 +1,4 @@
-// The conditions, tested in the order of the refusals' numbers.
+// Whether a mark may be made: the conditions, tested in the order of the refusals' numbers.
 use book::state::Today;
 use series::event::Quote;
 use series::refusal::Refusal;

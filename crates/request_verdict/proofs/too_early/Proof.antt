@@ -1,8 +1,8 @@
--- `requests::verdict::too_early` meets its contract.
+-- `request_verdict::too_early` meets its contract.
 use Rattle.series.specs.Conditions.{tooEarly}
 use borrow.Author.Needs.{needs}
-use Rattle.requests.proofs.verdict.too_early.Statement.{statement}
-use Rattle.requests.proofs.verdict.too_early.Tie as tie
+use Rattle.request_verdict.proofs.too_early.Statement.{statement}
+use Rattle.request_verdict.proofs.too_early.Tie as tie
 
 enum-told : tie.Need-enum-told
 enum-told c = search needs

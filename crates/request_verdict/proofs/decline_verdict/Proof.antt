@@ -1,7 +1,7 @@
 use Rattle.choice.proofs.Chain.{hit, past, tests}
 use borrow.Author.Needs.{needs}
-use Rattle.requests.proofs.verdict.decline_verdict.Statement.{statement}
-use Rattle.requests.proofs.verdict.decline_verdict.Tie as tie
+use Rattle.request_verdict.proofs.decline_verdict.Statement.{statement}
+use Rattle.request_verdict.proofs.decline_verdict.Tie as tie
 
 returns : tie.Need-returns
 returns c = search (hit, past, tests) depth 28

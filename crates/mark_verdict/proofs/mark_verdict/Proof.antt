@@ -1,10 +1,10 @@
--- `marking::verdict::mark_verdict` meets its contract: the tests are those of the rule, in its order.
+-- `mark_verdict::mark_verdict` meets its contract: the tests are those of the rule, in its order.
 use mathlib.Core.Path.{refl}
 use borrow.Author.Tests.{le-ltb, lt-leb}
 use Rattle.choice.proofs.Chain.{hit, past, tests}
 use borrow.Author.Needs.{needs}
-use Rattle.marking.proofs.verdict.mark_verdict.Statement.{statement}
-use Rattle.marking.proofs.verdict.mark_verdict.Tie as tie
+use Rattle.mark_verdict.proofs.mark_verdict.Statement.{statement}
+use Rattle.mark_verdict.proofs.mark_verdict.Tie as tie
 
 returns : tie.Need-returns
 returns c = search (hit, past, tests) depth 28

@@ -1,4 +1,4 @@
--- `requests::verdict::exercise_verdict` meets its contract: the tests are those of the rule, in its order.
+-- `request_verdict::exercise_verdict` meets its contract: the tests are those of the rule, in its order.
 use mathlib.Core.Path.{_≡_}
 use mir.Syntax.{w32}
 use Rattle.choice.proofs.Chain.{hit, past, tests}
@@ -7,8 +7,8 @@ use Rattle.integer.proofs.Machine.{any}
 use Rattle.integer.specs.Table.{at}
 use Rattle.places.specs.Places.{placeOf}
 use borrow.Author.Needs.{needs}
-use Rattle.requests.proofs.verdict.exercise_verdict.Statement.{statement}
-use Rattle.requests.proofs.verdict.exercise_verdict.Tie as tie
+use Rattle.request_verdict.proofs.exercise_verdict.Statement.{statement}
+use Rattle.request_verdict.proofs.exercise_verdict.Tie as tie
 
 -- what the call gave, of the position itself
 abbrev start : tie.After-held → tie.Start
