@@ -1,35 +1,20 @@
 // The file of the trading calendar, in the folder that the program runs in.
 use buffers::fill;
-use calendar::bounds::MAX_DATES;
 use calendar::bounds::MAX_TEXT;
 use calendar::types::CalendarRead;
 use calendar::types::Contents;
 use calendar::types::Opened;
 use calendar::types::Reading;
+use calendar_found::of_contents;
+use calendar_found::opened;
+use calendar_found::without_dates;
 use libc::PATH_MAX;
 use stream::types::Input;
 ghost use Prim.Native.Nat.{_+_, _<_};
 ghost use mathlib.Core.Path.{_≡_};
-ghost use lib.ListN.{length, replicate};
-ghost use Rattle.calendar.specs.Days.{maxDates};
-ghost use Rattle.calendar.specs.Text.{maxText, ReadAs};
-ghost use Rattle.calendar.specs.File.{openedBy, fileOf, InBuffer, calendarBy, LoadedFrom, LoadedBy, Loaded, maxPath, pathOf};
-
-// What an attempt to open it tells: that it was opened; or else whether a link has its name, and whether it failed for want of such a file.
-fn opened(readable: bool, link: bool, missing: bool) -> Opened
-    ensures { λ r. ⌜ r ≡ openedBy readable link missing ⌝ }
-{
-    if readable {
-        return Opened::Readable;
-    }
-    if link {
-        return Opened::Unreadable;
-    }
-    if missing {
-        return Opened::Missing;
-    }
-    Opened::Unreadable
-}
+ghost use lib.ListN.{length};
+ghost use Rattle.calendar.specs.Text.{maxText};
+ghost use Rattle.calendar.specs.File.{InBuffer, LoadedFrom, LoadedBy, Loaded, maxPath, pathOf};
 
 // Reads until the file ends or the buffer is full.
 fn contents(fd: i32, buf: &mut [u8]) -> Contents
@@ -50,27 +35,6 @@ fn contents(fd: i32, buf: &mut [u8]) -> Contents
         }
     }
     Contents::Bytes(have)
-}
-
-// A calendar without dates, or none.
-fn without_dates(reading: Reading) -> CalendarRead
-    ensures { λ r. ⌜ r ≡ record { numbers = replicate maxDates 0; reading = reading } ⌝ }
-{
-    CalendarRead {
-        numbers: [0; MAX_DATES],
-        reading,
-    }
-}
-
-// The calendar that was read into a buffer.
-fn of_contents(found: Contents, buf: &[u8]) -> CalendarRead
-    requires { ⌜ InBuffer (length (now buf)) found ⌝ }
-    ensures { λ r. ⌜ ReadAs r (calendarBy (fileOf found (now (buf .entry)))) ⌝ }
-{
-    let Contents::Bytes(n) = found else {
-        return without_dates(Reading::NoCalendar);
-    };
-    calendar_reader::read(&buf[..n])
 }
 
 // The calendar that a file holds: a byte more than those of the longest calendar is asked for, and no more.

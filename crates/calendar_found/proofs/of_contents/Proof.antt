@@ -1,10 +1,10 @@
--- `calendar_file::of_contents` meets its contract.
+-- `calendar_found::of_contents` meets its contract.
 use borrow.Author.Needs.{needs}
 use mathlib.Core.Path.{sym}
 use lib.Seq.{length-take-le}
 use Rattle.calendar.proofs.Files.{bytes-within, read-bytes, read-failed}
-use Rattle.calendar_file.proofs.of_contents.Statement.{statement}
-use Rattle.calendar_file.proofs.of_contents.Tie as tie
+use Rattle.calendar_found.proofs.of_contents.Statement.{statement}
+use Rattle.calendar_found.proofs.of_contents.Tie as tie
 
 enum-known-found : tie.Need-enum-known-found
 enum-known-found c = search needs

@@ -1,8 +1,8 @@
--- `calendar_file::opened` meets its contract.
+-- `calendar_found::opened` meets its contract.
 use Rattle.choice.proofs.Chain.{hit, past, tests}
 use Rattle.calendar.specs.File.{openedBy}
-use Rattle.calendar_file.proofs.opened.Statement.{statement}
-use Rattle.calendar_file.proofs.opened.Tie as tie
+use Rattle.calendar_found.proofs.opened.Statement.{statement}
+use Rattle.calendar_found.proofs.opened.Tie as tie
 
 returns : tie.Need-returns
 unfolding openedBy
