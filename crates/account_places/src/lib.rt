@@ -5,24 +5,15 @@ ghost use mathlib.Core.Path.{_≡_};
 ghost use Prim.Native.Nat.{_<_};
 ghost use Rattle.integer.specs.Table.{at};
 ghost use Rattle.terms.specs.Bounds.{accounts};
-ghost use Rattle.places.specs.Places.{places, placeIn, placeOf, ofAccount, sections};
+ghost use Rattle.places.specs.Places.{places, placeIn, ofAccount, sections};
 
 // The place of an account's section.
-fn place_in(account: usize, section: usize) -> usize
+pub fn place_in(account: usize, section: usize) -> usize
     requires { ⌜ (account < accounts) × (section < sections) ⌝ }
     ensures { λ r. ⌜ r ≡ placeIn account section ⌝ }
     ensures { λ r. ⌜ r < places ⌝ }
 {
     account * SECTIONS + section
-}
-
-// The place of an account's only section.
-pub fn place_of(account: u8) -> usize
-    requires { ⌜ account < accounts ⌝ }
-    ensures { λ r. ⌜ r ≡ placeOf account ⌝ }
-    ensures { λ r. ⌜ r < places ⌝ }
-{
-    place_in(account as usize, 0)
 }
 
 // The sum of an account's numbers, over its places.

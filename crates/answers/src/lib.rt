@@ -20,6 +20,7 @@ fn refusal_number(why: Refusal) -> u64
         Refusal::UnknownSeries => refusals::UNKNOWN_SERIES,
         Refusal::Expired => refusals::EXPIRED,
         Refusal::UnknownAccount => refusals::UNKNOWN_ACCOUNT,
+        Refusal::UnknownSection => refusals::UNKNOWN_SECTION,
         Refusal::OwnTrade => refusals::OWN_TRADE,
         Refusal::Size => refusals::SIZE,
         Refusal::Price => refusals::PRICE,

@@ -25,26 +25,26 @@ pub fn move_positions(positions: &mut [i32; PLACES], effect: Effect)
     }
 }
 
-// A request replaces the account's earlier one, a decline sets it to 0.
+// A request replaces the section's earlier one, a decline sets it to 0.
 pub fn set_request(requests: &mut [u32; PLACES], effect: Effect)
     requires { ⌜ rule.Fits effect ⌝ }
     ensures { λ r. ⌜ now (requests .exit) ≡ rule.requestsBy effect (now (requests .entry)) ⌝ }
 {
     match effect {
-        Effect::Requested(r) => request(requests, r.account, r.quantity as u32),
-        Effect::Declined(w) => request(requests, w.account, 0),
+        Effect::Requested(r) => request(requests, r.account, r.section, r.quantity as u32),
+        Effect::Declined(w) => request(requests, w.account, w.section, 0),
         _ => {}
     }
 }
 
-// A request takes the account's decline back.
+// A request takes the section's decline back.
 pub fn set_decline(declined: &mut [bool; PLACES], effect: Effect)
     requires { ⌜ rule.Fits effect ⌝ }
     ensures { λ r. ⌜ now (declined .exit) ≡ rule.declinesBy effect (now (declined .entry)) ⌝ }
 {
     match effect {
-        Effect::Requested(r) => decline(declined, r.account, false),
-        Effect::Declined(w) => decline(declined, w.account, true),
+        Effect::Requested(r) => decline(declined, r.account, r.section, false),
+        Effect::Declined(w) => decline(declined, w.account, w.section, true),
         _ => {}
     }
 }

@@ -7,13 +7,13 @@ use Prim.Native.Nat.{ℕ, zero, suc, _+_, _%_, _≤_, _<_}
 use native.Mathlib.Decide.{ℕ-discrete}
 use native.Mathlib.Omega.{arith}
 use borrow.Author.Tests.{ltb-false, leb-false, eqb-false, not-false}
-use lib.IntN.{ℤ, pos, natAbs, _+ℤ_, _-ℤ_}
+use lib.IntN.{ℤ, pos, negℤ}
 use Rattle.choice.specs.Choice.{choose}
 use Rattle.exercise.specs.Exercise.{held}
-use Rattle.integer.specs.Bounds.{Within}
 use Rattle.terms.specs.Bounds.{accounts, seriesRoom, finalDay, blotterRoom, maxStrike, maxTick, maxOptionPrice, maxFuturesPrice, maxTickValue, maxQuantity, maxPosition}
 use Rattle.value.specs.Value.{coefficientOf}
-use Rattle.series.specs.Conditions.{passesLimit, tooEarly}
+use Rattle.places.specs.Places.{sections}
+use Rattle.series.specs.Conditions.{grossAfter, passesLimit, tooEarly}
 use Rattle.series.specs.Series.{positionIn}
 use Rattle.series.specs.declared.event.NewSeries.{NewSeries}
 use Rattle.series.specs.declared.event.Deal.{Deal}
@@ -25,7 +25,7 @@ use Rattle.series.specs.declared.refusal.Verdict.{Verdict}
 use Rattle.series.specs.declared.refusal.Verdict.the-variants.{Allowed, Refused}
 use Rattle.series.specs.declared.state.Listing.{Listing}
 use Rattle.book.specs.State.{seriesAt, live, todayOf}
-use Rattle.book.specs.Verdicts.{listVerdict, tradeVerdict, exerciseVerdict, declineVerdict, markVerdict, lacksMark, firstFrom, firstUnmarked, needsMark, verdictOf}
+use Rattle.book.specs.Verdicts.{andThen, partiesVerdict, priceVerdict, listVerdict, tradeVerdict, exerciseVerdict, declineVerdict, markVerdict, lacksMark, firstFrom, firstUnmarked, needsMark, verdictOf}
 use Rattle.book.specs.declared.state.Book.{Book}
 use Rattle.book.specs.declared.state.Event.the-variants.{List, Trade, Exercise, Decline, Mark, Intraday, Evening}
 use Rattle.book.specs.declared.state.Found.{Found}
@@ -45,6 +45,16 @@ passed : (t : Bool) (why : Refusal) (v : Verdict) → choose t (Refused why) v �
 unfolding choose
 passed true why v e = absurd (refused-not-allowed e)
 passed false why v e = record { failed = refl; rest = e }
+
+-- two groups of conditions that end in Allowed: each does
+record BothPassed (v w : Verdict) : Type 0 where
+  pub first : v ≡ Allowed
+  pub rest : w ≡ Allowed
+
+both-passed : (v w : Verdict) → andThen v w ≡ Allowed → BothPassed v w
+unfolding andThen
+both-passed Allowed w e = record { first = refl; rest = e }
+both-passed (Refused why) w e = absurd (refused-not-allowed e)
 
 -- ---- a listing
 pub record ListAllowed (t : Today) (n : NewSeries) : Type 0 where
@@ -78,9 +88,49 @@ list-allowed t n e =
     }
 
 -- ---- events on one series, of this listing and these positions
-within-limit : (z : ℤ) → passesLimit z ≡ false → Within maxPosition z
+within-limit : (n : ℕ) → passesLimit n ≡ false → n ≤ maxPosition
 unfolding passesLimit
-within-limit z e = record { abs = ltb-false maxPosition (natAbs z) e }
+within-limit n e = ltb-false maxPosition n e
+
+-- between whom a trade is, and its quantity and price in a series of this tick
+pub record PartiesAllowed (d : Deal) : Type 0 where
+  pub buyer : d .buyer < accounts
+  pub seller : d .seller < accounts
+  pub buyer-section : d .«buyer_section» < sections
+  pub seller-section : d .«seller_section» < sections
+  pub apart : d .buyer ≢ d .seller
+
+pub parties-allowed : (d : Deal) → partiesVerdict d ≡ Allowed → PartiesAllowed d
+parties-allowed d e =
+    let p1 = passed _ _ _ e in
+    let p2 = passed _ _ _ (p1 .rest) in
+    let p3 = passed _ _ _ (p2 .rest) in
+    let p4 = passed _ _ _ (p3 .rest) in
+    let p5 = passed _ _ _ (p4 .rest) in record {
+      buyer = leb-false accounts (d .buyer) (p1 .failed);
+      seller = leb-false accounts (d .seller) (p2 .failed);
+      buyer-section = leb-false sections (d .«buyer_section») (p3 .failed);
+      seller-section = leb-false sections (d .«seller_section») (p4 .failed);
+      apart = eqb-false (d .buyer) (d .seller) (p5 .failed);
+    }
+
+pub record PriceAllowed (tick : ℕ) (d : Deal) : Type 0 where
+  pub least : 1 ≤ d .quantity
+  pub most : d .quantity ≤ maxQuantity
+  pub price : d .price ≤ maxOptionPrice
+  pub whole-ticks : d .price % tick ≡ 0
+
+pub price-allowed : (tick : ℕ) (d : Deal) → priceVerdict tick d ≡ Allowed → PriceAllowed tick d
+price-allowed tick d e =
+    let p1 = passed _ _ _ e in
+    let p2 = passed _ _ _ (p1 .rest) in
+    let p3 = passed _ _ _ (p2 .rest) in
+    let p4 = passed _ _ _ (p3 .rest) in record {
+      least = ltb-false (d .quantity) 1 (p1 .failed);
+      most = ltb-false maxQuantity (d .quantity) (p2 .failed);
+      price = ltb-false maxOptionPrice (d .price) (p3 .failed);
+      whole-ticks = omega (arith, ltb-false 0 (d .price % tick) (p4 .failed));
+    }
 
 pub record TradeAllowed (t : Today) (l : Listing) (positions : list.List ℤ) (d : Deal) : Type 0 where
   pub day : t .day ≤ finalDay
@@ -88,13 +138,15 @@ pub record TradeAllowed (t : Today) (l : Listing) (positions : list.List ℤ) (d
   pub live : t .day ≤ l .«last_day»
   pub buyer : d .buyer < accounts
   pub seller : d .seller < accounts
+  pub buyer-section : d .«buyer_section» < sections
+  pub seller-section : d .«seller_section» < sections
   pub apart : d .buyer ≢ d .seller
   pub least : 1 ≤ d .quantity
   pub most : d .quantity ≤ maxQuantity
   pub price : d .price ≤ maxOptionPrice
   pub whole-ticks : d .price % l .tick ≡ 0
-  pub buyer-limit : Within maxPosition (positionIn positions (d .buyer) +ℤ pos (d .quantity))
-  pub seller-limit : Within maxPosition (positionIn positions (d .seller) -ℤ pos (d .quantity))
+  pub buyer-limit : grossAfter positions (d .buyer) (d .«buyer_section») (pos (d .quantity)) ≤ maxPosition
+  pub seller-limit : grossAfter positions (d .seller) (d .«seller_section») (negℤ (pos (d .quantity))) ≤ maxPosition
   pub room : t .trades < blotterRoom
 
 pub trade-allowed : (t : Today) (l : Listing) (positions : list.List ℤ) (d : Deal) → tradeVerdict t l positions d ≡ Allowed → TradeAllowed t l positions d
@@ -102,29 +154,29 @@ trade-allowed t l positions d e =
     let p1 = passed _ _ _ e in
     let p2 = passed _ _ _ (p1 .rest) in
     let p3 = passed _ _ _ (p2 .rest) in
-    let p4 = passed _ _ _ (p3 .rest) in
+    let g1 = both-passed _ _ (p3 .rest) in
+    let g2 = both-passed _ _ (g1 .rest) in
+    let g3 = both-passed _ _ (g2 .rest) in
+    let p4 = passed _ _ _ (g3 .first) in
     let p5 = passed _ _ _ (p4 .rest) in
-    let p6 = passed _ _ _ (p5 .rest) in
-    let p7 = passed _ _ _ (p6 .rest) in
-    let p8 = passed _ _ _ (p7 .rest) in
-    let p9 = passed _ _ _ (p8 .rest) in
-    let p10 = passed _ _ _ (p9 .rest) in
-    let p11 = passed _ _ _ (p10 .rest) in
-    let p12 = passed _ _ _ (p11 .rest) in
-    let p13 = passed _ _ _ (p12 .rest) in record {
+    let p6 = passed _ _ _ (g3 .rest) in
+    let parties = parties-allowed d (g1 .first) in
+    let price = price-allowed (l .tick) d (g2 .first) in record {
       day = ltb-false finalDay (t .day) (p1 .failed);
       listed = leb-false (t .listed) (d .series) (p2 .failed);
       live = ltb-false (l .«last_day») (t .day) (p3 .failed);
-      buyer = leb-false accounts (d .buyer) (p4 .failed);
-      seller = leb-false accounts (d .seller) (p5 .failed);
-      apart = eqb-false (d .buyer) (d .seller) (p6 .failed);
-      least = ltb-false (d .quantity) 1 (p7 .failed);
-      most = ltb-false maxQuantity (d .quantity) (p8 .failed);
-      price = ltb-false maxOptionPrice (d .price) (p9 .failed);
-      whole-ticks = omega (arith, ltb-false 0 (d .price % l .tick) (p10 .failed));
-      buyer-limit = within-limit (positionIn positions (d .buyer) +ℤ pos (d .quantity)) (p11 .failed);
-      seller-limit = within-limit (positionIn positions (d .seller) -ℤ pos (d .quantity)) (p12 .failed);
-      room = leb-false blotterRoom (t .trades) (p13 .failed);
+      buyer = parties .buyer;
+      seller = parties .seller;
+      buyer-section = parties .buyer-section;
+      seller-section = parties .seller-section;
+      apart = parties .apart;
+      least = price .least;
+      most = price .most;
+      price = price .price;
+      whole-ticks = price .whole-ticks;
+      buyer-limit = within-limit (grossAfter positions (d .buyer) (d .«buyer_section») (pos (d .quantity))) (p4 .failed);
+      seller-limit = within-limit (grossAfter positions (d .seller) (d .«seller_section») (negℤ (pos (d .quantity)))) (p5 .failed);
+      room = leb-false blotterRoom (t .trades) (p6 .failed);
     }
 
 pub record RequestAllowed (t : Today) (l : Listing) (positions : list.List ℤ) (r : Request) : Type 0 where
@@ -132,8 +184,9 @@ pub record RequestAllowed (t : Today) (l : Listing) (positions : list.List ℤ) 
   pub listed : r .series < t .listed
   pub live : t .day ≤ l .«last_day»
   pub account : r .account < accounts
+  pub section : r .section < sections
   pub in-time : tooEarly (l .category) (t .day) (l .«last_day») ≡ false
-  pub held : r .quantity ≤ held (positionIn positions (r .account))
+  pub held : r .quantity ≤ held (positionIn positions (r .account) (r .section))
 
 pub exercise-allowed : (t : Today) (l : Listing) (positions : list.List ℤ) (r : Request) → exerciseVerdict t l positions r ≡ Allowed
     → RequestAllowed t l positions r
@@ -143,13 +196,15 @@ exercise-allowed t l positions r e =
     let p3 = passed _ _ _ (p2 .rest) in
     let p4 = passed _ _ _ (p3 .rest) in
     let p5 = passed _ _ _ (p4 .rest) in
-    let p6 = passed _ _ _ (p5 .rest) in record {
+    let p6 = passed _ _ _ (p5 .rest) in
+    let p7 = passed _ _ _ (p6 .rest) in record {
       day = ltb-false finalDay (t .day) (p1 .failed);
       listed = leb-false (t .listed) (r .series) (p2 .failed);
       live = ltb-false (l .«last_day») (t .day) (p3 .failed);
       account = leb-false accounts (r .account) (p4 .failed);
-      in-time = p5 .failed;
-      held = ltb-false (held (positionIn positions (r .account))) (r .quantity) (p6 .failed);
+      section = leb-false sections (r .section) (p5 .failed);
+      in-time = p6 .failed;
+      held = ltb-false (held (positionIn positions (r .account) (r .section))) (r .quantity) (p7 .failed);
     }
 
 pub record DeclineAllowed (t : Today) (l : Listing) (w : Waiver) : Type 0 where
@@ -157,6 +212,7 @@ pub record DeclineAllowed (t : Today) (l : Listing) (w : Waiver) : Type 0 where
   pub listed : w .series < t .listed
   pub live : t .day ≤ l .«last_day»
   pub account : w .account < accounts
+  pub section : w .section < sections
   pub in-time : l .«last_day» ≤ t .day
 
 pub decline-allowed : (t : Today) (l : Listing) (w : Waiver) → declineVerdict t l w ≡ Allowed → DeclineAllowed t l w
@@ -165,12 +221,14 @@ decline-allowed t l w e =
     let p2 = passed _ _ _ (p1 .rest) in
     let p3 = passed _ _ _ (p2 .rest) in
     let p4 = passed _ _ _ (p3 .rest) in
-    let p5 = passed _ _ _ (p4 .rest) in record {
+    let p5 = passed _ _ _ (p4 .rest) in
+    let p6 = passed _ _ _ (p5 .rest) in record {
       day = ltb-false finalDay (t .day) (p1 .failed);
       listed = leb-false (t .listed) (w .series) (p2 .failed);
       live = ltb-false (l .«last_day») (t .day) (p3 .failed);
       account = leb-false accounts (w .account) (p4 .failed);
-      in-time = ltb-false (t .day) (l .«last_day») (p5 .failed);
+      section = leb-false sections (w .section) (p5 .failed);
+      in-time = ltb-false (t .day) (l .«last_day») (p6 .failed);
     }
 
 pub record MarkAllowed (t : Today) (l : Listing) (q : Quote) : Type 0 where

@@ -19,7 +19,8 @@ use Rattle.series.specs.declared.event.Request.{Request}
 use Rattle.series.specs.declared.event.Waiver.{Waiver}
 use Rattle.series.specs.declared.event.Quote.{Quote}
 use Rattle.series.specs.declared.state.Series.{Series}
-use Rattle.series.proofs.Keeps.{CanMove, good-new, good-traded, good-requested, good-declined, good-marked}
+use Rattle.series.proofs.Limit.{CanMove}
+use Rattle.series.proofs.Keeps.{good-new, good-traded, good-requested, good-declined, good-marked}
 use Rattle.book.specs.Good.{Good, GoodTrade, Idle}
 use Rattle.book.specs.State.{seriesAt, tradeAt, todayOf, withSeries, withBlotter, noSeries, noListing}
 use Rattle.book.specs.Step.{listed, entryOf, withTrade}
@@ -148,20 +149,26 @@ good-entry b g t w room =
     again : (u : Trade) → GoodTrade b u → GoodTrade (withEntry b t) u
     again u = same-trade b (withEntry b t) u refl (omega arith) (λ i _. refl)
 
+-- a trade that is allowed moves positions
+pub can-move : (b : Book) (d : Deal) → CanTrade b d → CanMove (seriesAt b (d .series) .positions) (entryOf d)
+can-move b d c =
+    record {
+      buyer = c .buyer;
+      seller = c .seller;
+      apart = c .apart;
+      buyer-section = c .buyer-section;
+      seller-section = c .seller-section;
+      buyer-limit = c .buyer-limit;
+      seller-limit = c .seller-limit;
+    }
+
 pub good-trade : (b : Book) → Good b → (d : Deal)
     → CanTrade b d → Good (withTrade b (entryOf d))
 unfolding withEntry
 good-trade b g d c =
     let i = d .series in
     let s = traded (seriesAt b i) (entryOf d) in
-    let moves : CanMove (seriesAt b i) (entryOf d) = record {
-      buyer = c .buyer;
-      seller = c .seller;
-      apart = c .apart;
-      buyer-limit = c .buyer-limit;
-      seller-limit = c .seller-limit;
-    } in
-    let good = good-traded (b .day) (seriesAt b i) (good-series b g (c .listed)) (entryOf d) moves in
+    let good = good-traded (b .day) (seriesAt b i) (good-series b g (c .listed)) (entryOf d) (can-move b d c) in
     good-entry (withSeries b i s) (good-with-series b g i (c .listed) (c .live) s refl good) (entryOf d)
     (same-trade b (withSeries b i s) (entryOf d) refl (omega arith) (λ j _. same-listing b g i (c .listed) (c .live) s refl good j)
     (record {

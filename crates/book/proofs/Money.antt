@@ -16,9 +16,9 @@ use Rattle.margin.specs.Margin.{costIn}
 use Rattle.margin.proofs.Cost.{costIn-balances, trades-small, traded-small}
 use Rattle.terms.specs.Bounds.{accounts, seriesRoom, maxOptionPrice, maxPosition}
 use Rattle.places.specs.Places.{ofAccount}
-use Rattle.places.proofs.Places.{sum-by-account, of-account-within}
+use Rattle.places.proofs.Places.{sum-by-account}
 use Rattle.series.specs.Changes.{closing}
-use Rattle.series.proofs.Keeps.{closing-within, closing-balances}
+use Rattle.series.proofs.Keeps.{closing-of-account, closing-balances, position-of-account}
 use Rattle.book.specs.Good.{Good}
 use Rattle.book.specs.Sessions.{tradedIn, marginIn, intradayMoneyIn, eveningMarginIn, intradayPaid, eveningMoneyIn, overLive, intradayMoney, eveningMoney, paidToday}
 use Rattle.book.specs.State.{seriesAt, tradeAt, position, live, cash}
@@ -91,7 +91,7 @@ module _ (b : Book) (g : Good b) where
   -- ---- the intraday session
   pub intraday-small : (i a : ℕ) → i < seriesRoom → Within mostInASeries (intradayMoneyIn b i a)
   unfolding intradayMoneyIn
-  intraday-small i a lt = margin-small i a _ _ lt (g .series i lt .option) (of-account-within _ (g .series i lt .positions .bounded .each) a)
+  intraday-small i a lt = margin-small i a _ _ lt (g .series i lt .option) (position-of-account (b .day) (seriesAt b i) (g .series i lt) a)
 
   pub intraday-balances-in : (i : ℕ) → i < seriesRoom → sumTo accounts (intradayMoneyIn b i) ≡ pos 0
   unfolding intradayMoneyIn
@@ -101,7 +101,7 @@ module _ (b : Book) (g : Good b) where
   unfolding intradayMoney intradayMoneyIn
   intraday-within a =
       margin-within a (λ i. seriesAt b i .mark .option) (λ i. position b i a) (λ i lt. g .series i lt .option)
-      (λ i lt. of-account-within _ (g .series i lt .positions .bounded .each) a)
+      (λ i lt. position-of-account (b .day) (seriesAt b i) (g .series i lt) a)
 
   pub intraday-balances : sumTo accounts (intradayMoney b) ≡ pos 0
   unfolding intradayMoney
@@ -110,7 +110,7 @@ module _ (b : Book) (g : Good b) where
   -- ---- the evening session
   pub evening-margin-small : (i a : ℕ) → i < seriesRoom → Within mostInASeries (eveningMarginIn b i a)
   unfolding eveningMarginIn
-  evening-margin-small i a lt = margin-small i a _ _ lt (g .series i lt .option) (of-account-within _ (closing-within (b .day) (seriesAt b i) (g .series i lt)) a)
+  evening-margin-small i a lt = margin-small i a _ _ lt (g .series i lt .option) (closing-of-account (b .day) (seriesAt b i) (g .series i lt) a)
 
   pub evening-margin-balances : (i : ℕ) → i < seriesRoom → sumTo accounts (eveningMarginIn b i) ≡ pos 0
   unfolding eveningMarginIn
@@ -131,7 +131,7 @@ module _ (b : Book) (g : Good b) where
   unfolding eveningMargin eveningMarginIn
   evening-margin-within a =
       margin-within a (λ i. seriesAt b i .mark .option) (λ i. ofAccount (closing (seriesAt b i) (b .day)) a) (λ i lt. g .series i lt .option)
-      (λ i lt. of-account-within _ (closing-within (b .day) (seriesAt b i) (g .series i lt)) a)
+      (λ i lt. closing-of-account (b .day) (seriesAt b i) (g .series i lt) a)
 
   -- VM − VM1 of all series
   pub evening-is-rest : (a : ℕ) → a < accounts → eveningMoney b a ≡ eveningMargin b a -ℤ paidToday b a

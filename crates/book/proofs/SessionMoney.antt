@@ -14,6 +14,7 @@ use Rattle.integer.proofs.Table.{table-ext, getD-table}
 use Rattle.margin.specs.Bounds.{mostInASeries}
 use Rattle.margin.specs.BySeries.{cell, cells, bySeries, inAll}
 use Rattle.margin.proofs.BySeries.{cell-below, at-by-series, by-series-ext, bounded-by-series}
+use Rattle.places.specs.Places.{Limited}
 use Rattle.places.proofs.Places.{of-account-table}
 use Rattle.series.specs.Changes.{unmarked, settled, closing}
 use Rattle.series.specs.Series.{positionOf}
@@ -50,11 +51,11 @@ paidFor b f i a = choose (live b i) (f i a) (pos 0)
 
 module _ (b : Book) (good : Good b) where
   module _ (after : List Series) (e : after ≡ changed b unmarked) where
-    pub unmarked-bounded : (i : ℕ) → i < seriesRoom → Bounded maxPosition (getD after i noSeries .positions)
-    unmarked-bounded =
+    pub unmarked-limited : (i : ℕ) → i < seriesRoom → Limited maxPosition (getD after i noSeries .positions)
+    unmarked-limited =
         rw e
-        (each-changed b unmarked (λ i s. Bounded maxPosition (s .positions)) (λ i lt t. good .series i lt .positions .bounded)
-        (λ i lt t. good .series i lt .positions .bounded))
+        (each-changed b unmarked (λ i s. Limited maxPosition (s .positions)) (λ i lt t. good .series i lt .limited)
+        (λ i lt t. good .series i lt .limited))
 
     pub intraday-is : bySeries (marginBy b after) ≡ bySeries (paidFor b (intradayMoneyIn b))
     unfolding intradayMoneyIn
@@ -64,11 +65,11 @@ module _ (b : Book) (good : Good b) where
         (ap (λ (l : List Series). getD l i noSeries) e ∙ changed-live b unmarked i room t)))
 
   module _ (after : List Series) (e : after ≡ changed b (λ s. settled s (b .day))) where
-    pub settled-bounded : (i : ℕ) → i < seriesRoom → Bounded maxPosition (getD after i noSeries .positions)
-    settled-bounded =
+    pub settled-limited : (i : ℕ) → i < seriesRoom → Limited maxPosition (getD after i noSeries .positions)
+    settled-limited =
         rw e
-        (each-changed b (λ s. settled s (b .day)) (λ i s. Bounded maxPosition (s .positions))
-        (λ i lt t. good-settled (b .day) (seriesAt b i) (good .series i lt) .positions .bounded) (λ i lt t. good .series i lt .positions .bounded))
+        (each-changed b (λ s. settled s (b .day)) (λ i s. Limited maxPosition (s .positions))
+        (λ i lt t. good-settled (b .day) (seriesAt b i) (good .series i lt) .limited) (λ i lt t. good .series i lt .limited))
 
     pub evening-is : bySeries (marginBy b after) ≡ bySeries (paidFor b (eveningMarginIn b))
     unfolding eveningMarginIn

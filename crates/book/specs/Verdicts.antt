@@ -1,15 +1,16 @@
--- Under which conditions an event is refused (RULES, "Refusals"): for each event one chain, in the order of their numbers. "The lowest number
--- that applies is the answer": the first condition of the chain that holds decides.
+-- Under which conditions an event is refused (RULES, "Refusals"): for each event one chain, in the order of their numbers, with 23 directly
+-- after 4. "The lowest number that applies is the answer": the first condition of the chain that holds decides.
 use mathlib.Core.Bool.{Bool, _&&_, not}
 use mathlib.Core.List as list
 use Prim.Native.Nat.{ℕ, zero, suc, _%_}
 use lib.Dec.{ltb, leb, eqb}
-use lib.IntN.{ℤ, pos, _+ℤ_, _-ℤ_}
+use lib.IntN.{ℤ, pos, negℤ}
 use Rattle.choice.specs.Choice.{choose}
 use Rattle.exercise.specs.Exercise.{held}
 use Rattle.terms.specs.Bounds.{accounts, seriesRoom, finalDay, blotterRoom, maxStrike, maxTick, maxOptionPrice, maxFuturesPrice, maxTickValue, maxQuantity}
 use Rattle.value.specs.Value.{coefficientOf}
-use Rattle.series.specs.Conditions.{passesLimit, tooEarly}
+use Rattle.series.specs.Conditions.{grossAfter, passesLimit, tooEarly}
+use Rattle.places.specs.Places.{sections}
 use Rattle.series.specs.Series.{pastLast, positionIn}
 use Rattle.series.specs.declared.event.NewSeries.{NewSeries}
 use Rattle.series.specs.declared.event.Deal.{Deal}
@@ -17,7 +18,7 @@ use Rattle.series.specs.declared.event.Request.{Request}
 use Rattle.series.specs.declared.event.Waiver.{Waiver}
 use Rattle.series.specs.declared.event.Quote.{Quote}
 use Rattle.series.specs.declared.state.Listing.{Listing}
-use Rattle.series.specs.declared.refusal.Refusal.the-variants.{Finished, UnknownSeries, Expired, UnknownAccount, OwnTrade, Size, Price, PositionLimit, BlotterFull, Terms, SeriesFull, NotToday, NotHeld, TickValue, SecondIntraday, NoMark}
+use Rattle.series.specs.declared.refusal.Refusal.the-variants.{Finished, UnknownSeries, Expired, UnknownAccount, UnknownSection, OwnTrade, Size, Price, PositionLimit, BlotterFull, Terms, SeriesFull, NotToday, NotHeld, TickValue, SecondIntraday, NoMark}
 use Rattle.series.specs.declared.refusal.Verdict.{Verdict}
 use Rattle.series.specs.declared.refusal.Verdict.the-variants.{Allowed, Refused}
 use Rattle.book.specs.State.{seriesAt, live, todayOf}
@@ -40,6 +41,10 @@ unlisted t i = leb (t .listed) i
 abbrev pub unknown : ℕ → Bool
 unknown account = leb accounts account
 
+-- 23, unknown section: above 1; "directly after 4"
+abbrev pub unknownSection : ℕ → Bool
+unknownSection section = leb sections section
+
 -- a listing
 abbrev pub listVerdict : Today → NewSeries → Verdict
 listVerdict t n =
@@ -53,34 +58,60 @@ listVerdict t n =
     (choose (leb seriesRoom (t .listed)) (Refused SeriesFull)
     Allowed)))))))
 
+-- one group of conditions, and then another: the first condition that holds decides
+unfoldable pub andThen : Verdict → Verdict → Verdict
+andThen Allowed next = next
+andThen (Refused why) next = Refused why
+
+-- 4, 23 and 5, between whom a trade is: "both accounts are tested for 4 first, then both sections for 23"
+abbrev pub partiesVerdict : Deal → Verdict
+partiesVerdict d =
+    choose (unknown (d .buyer)) (Refused UnknownAccount)
+    (choose (unknown (d .seller)) (Refused UnknownAccount)
+    (choose (unknownSection (d .«buyer_section»)) (Refused UnknownSection)
+    (choose (unknownSection (d .«seller_section»)) (Refused UnknownSection)
+    (choose (eqb (d .buyer) (d .seller)) (Refused OwnTrade)
+    Allowed))))
+
+-- 6 and 7, its quantity and its price, in a series of this tick
+abbrev pub priceVerdict : ℕ → Deal → Verdict
+priceVerdict tick d =
+    choose (ltb (d .quantity) 1) (Refused Size)
+    (choose (ltb maxQuantity (d .quantity)) (Refused Size)
+    (choose (ltb maxOptionPrice (d .price)) (Refused Price)
+    (choose (ltb 0 (d .price % tick)) (Refused Price)
+    Allowed)))
+
+-- 8, what each side has after it, in a series of these positions: "each side by itself"
+abbrev pub limitVerdict : list.List ℤ → Deal → Verdict
+limitVerdict positions d =
+    choose (passesLimit (grossAfter positions (d .buyer) (d .«buyer_section») (pos (d .quantity)))) (Refused PositionLimit)
+    (choose (passesLimit (grossAfter positions (d .seller) (d .«seller_section») (negℤ (pos (d .quantity))))) (Refused PositionLimit)
+    Allowed)
+
 -- a trade in a series of this listing and these positions
 abbrev pub tradeVerdict : Today → Listing → list.List ℤ → Deal → Verdict
 tradeVerdict t l positions d =
     choose (finished t) (Refused Finished)
     (choose (unlisted t (d .series)) (Refused UnknownSeries)
     (choose (pastLast l (t .day)) (Refused Expired)
-    (choose (unknown (d .buyer)) (Refused UnknownAccount)
-    (choose (unknown (d .seller)) (Refused UnknownAccount)
-    (choose (eqb (d .buyer) (d .seller)) (Refused OwnTrade)
-    (choose (ltb (d .quantity) 1) (Refused Size)
-    (choose (ltb maxQuantity (d .quantity)) (Refused Size)
-    (choose (ltb maxOptionPrice (d .price)) (Refused Price)
-    (choose (ltb 0 (d .price % l .tick)) (Refused Price)
-    (choose (passesLimit (positionIn positions (d .buyer) +ℤ pos (d .quantity))) (Refused PositionLimit)
-    (choose (passesLimit (positionIn positions (d .seller) -ℤ pos (d .quantity))) (Refused PositionLimit)
+    (andThen (partiesVerdict d)
+    (andThen (priceVerdict (l .tick) d)
+    (andThen (limitVerdict positions d)
     (choose (leb blotterRoom (t .trades)) (Refused BlotterFull)
-    Allowed))))))))))))
+    Allowed))))))
 
--- a request to exercise, "above the position, counted as 0 if short"
+-- a request to exercise, "above the position of its section, counted as 0 if short"
 abbrev pub exerciseVerdict : Today → Listing → list.List ℤ → Request → Verdict
 exerciseVerdict t l positions r =
     choose (finished t) (Refused Finished)
     (choose (unlisted t (r .series)) (Refused UnknownSeries)
     (choose (pastLast l (t .day)) (Refused Expired)
     (choose (unknown (r .account)) (Refused UnknownAccount)
+    (choose (unknownSection (r .section)) (Refused UnknownSection)
     (choose (tooEarly (l .category) (t .day) (l .«last_day»)) (Refused NotToday)
-    (choose (ltb (held (positionIn positions (r .account))) (r .quantity)) (Refused NotHeld)
-    Allowed)))))
+    (choose (ltb (held (positionIn positions (r .account) (r .section))) (r .quantity)) (Refused NotHeld)
+    Allowed))))))
 
 -- a holder's refusal, "before the last day"
 abbrev pub declineVerdict : Today → Listing → Waiver → Verdict
@@ -89,8 +120,9 @@ declineVerdict t l w =
     (choose (unlisted t (w .series)) (Refused UnknownSeries)
     (choose (pastLast l (t .day)) (Refused Expired)
     (choose (unknown (w .account)) (Refused UnknownAccount)
+    (choose (unknownSection (w .section)) (Refused UnknownSection)
     (choose (ltb (t .day) (l .«last_day»)) (Refused NotToday)
-    Allowed))))
+    Allowed)))))
 
 -- a mark: "W, or c, outside 1 to 200,000,000"
 abbrev pub markVerdict : Today → Listing → Quote → Verdict

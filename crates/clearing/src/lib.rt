@@ -37,6 +37,8 @@ pub fn empty() -> Book
         series: 0,
         buyer: 0,
         seller: 0,
+        buyer_section: 0,
+        seller_section: 0,
         quantity: 0,
         price: 0,
     };

@@ -42,6 +42,8 @@ fn trade(n: usize) -> Event
         seller: (n / 8 + 32) as u8,
         quantity: (n + 1) as u64,
         price: (n + 5000) as u64,
+        buyer_section: 0,
+        seller_section: 0,
     })
 }
 

@@ -13,7 +13,7 @@ use mir.Syntax.{Width}
 use mir.Val.{SFits, hbits}
 use Rattle.integer.proofs.Absolute.{abs-add, abs-sub, abs-neg, abs-mul-le, sfits-abs}
 use Rattle.integer.specs.Table.{table, at}
-use Rattle.integer.proofs.Table.{length-table, getD-table}
+use Rattle.integer.proofs.Table.{length-table, getD-table, not-below}
 use Rattle.integer.specs.Sum.{sumTo}
 use Rattle.integer.proofs.Sum.{sum-abs, at-zeros}
 use Rattle.integer.specs.Bounds.{Within, Bounded}
@@ -27,6 +27,9 @@ within-fits w {B} {x} h t = sfits-abs x (lt-of-le-of-lt (h .abs) (ltb→lt B (2 
 
 pub within-le : {A B : ℕ} {x : ℤ} → Within A x → A ≤ B → Within B x
 within-le h k = record { abs = le-trans (h .abs) k }
+
+pub within-itself : (x : ℤ) → Within (natAbs x) x
+within-itself x = record { abs = omega arith }
 
 pub within-pos : {B n : ℕ} → n ≤ B → Within B (pos n)
 within-pos h = record { abs = h }
@@ -46,9 +49,6 @@ within-mul {A} {B} {x} {y} h k = record { abs = abs-mul-le x y A B (h .abs) (k .
 -- ---- lists
 pub within-sum : (n : ℕ) {B : ℕ} (f : ℕ → ℤ) → ((k : ℕ) → k < n → Within B (f k)) → Within (n * B) (sumTo n f)
 within-sum n {B} f h = record { abs = sum-abs n B f (λ k lt. h k lt .abs) }
-
-not-below : (a b : ℕ) → ¬ (a < b) → b ≤ a
-not-below a b h = omega arith
 
 pub bounded-at : {B n : ℕ} (l : List ℤ) → length l ≡ n → ((k : ℕ) → k < n → Within B (at l k)) → Bounded B l
 bounded-at {B} {n} l e h = record { each = λ k. by k (decLt k n) }

@@ -5,9 +5,12 @@ use Prim.Native.Nat.{ℕ, zero, suc, _+_, _<_, _≤_}
 use native.Mathlib.Nat.{le-of-suc-le-suc, not-suc-le-zero}
 use native.Mathlib.Decide.{ℕ-discrete, decLt}
 use native.Mathlib.Omega.{arith}
-use lib.ListN.{length, getD, set, replicate, length-set, length-replicate, getD-replicate}
+use lib.ListN.{length, getD, set, replicate, length-set, length-replicate, getD-replicate, List·getD-eq-default}
 use lib.Seq.{ext-getD, getD-set-same, getD-set-other}
 use Rattle.integer.specs.Table.{table}
+
+pub not-below : (a b : ℕ) → ¬ (a < b) → b ≤ a
+not-below a b h = omega arith
 
 module _ {A : Type 0} where
   pub length-table : (n : ℕ) (f : ℕ → A) → length (table n f) ≡ n
@@ -20,6 +23,9 @@ module _ {A : Type 0} where
   getD-table zero f k d h = absurd (not-suc-le-zero h)
   getD-table (suc n) f zero d h = refl
   getD-table (suc n) f (suc k) d h = getD-table n (λ k. f (suc k)) k d (le-of-suc-le-suc h)
+
+  pub past-table : (n : ℕ) (f : ℕ → A) (k : ℕ) {d : A} → ¬ (k < n) → getD (table n f) k d ≡ d
+  past-table n f k {d} h = List·getD-eq-default (table n f) d {n = k} (rw (length-table n f) (not-below k n h))
 
   -- a list is a table by its elements
   pub is-table : (n : ℕ) (f : ℕ → A) (l : List A) (d : A) → length l ≡ n → ((k : ℕ) → k < n → getD l k d ≡ f k) → l ≡ table n f

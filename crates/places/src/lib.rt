@@ -2,8 +2,8 @@
 // places there are, and which are an account's.
 use terms::bounds::ACCOUNTS;
 
-// The sections of an account's register. RULES, "Exercise": an account is a single section here.
-pub const SECTIONS: usize = 1;
+// The sections of an account's register, 0 and 1.
+pub const SECTIONS: usize = 2;
 
 // An account has a place for each of its sections.
 pub const PLACES: usize = ACCOUNTS * SECTIONS;

@@ -18,8 +18,8 @@ use Rattle.exercise.specs.Exercise.{inTheMoney, half, automatic, exercised}
 use Rattle.integer.specs.Sum.{sumℕ, sumTo}
 use Rattle.integer.specs.Table.{at, table}
 use Rattle.margin.specs.Margin.{signed, cost, costIn}
-use Rattle.places.specs.Places.{placeIn, placeOf, ofAccount}
-use Rattle.series.specs.Conditions.{passesLimit}
+use Rattle.places.specs.Places.{placeIn, ofAccount, gross}
+use Rattle.series.specs.Conditions.{grossAfter, passesLimit}
 use Rattle.terms.specs.declared.Category.the-variants.{American}
 use Rattle.terms.specs.declared.OptionType.the-variants.{Call}
 use Rattle.value.specs.Rounding.{nearest}
@@ -27,7 +27,7 @@ use Rattle.book.specs.Answers.{wasCarriedOut}
 use Rattle.book.specs.Sessions.{intradayMoneyIn, eveningMarginIn, eveningMoneyIn, intradayMoney, eveningMoney}
 use Rattle.book.specs.State.{emptyBook, futures, cash}
 use Rattle.book.specs.Step.{decided, stepOf, run, after}
-use Rattle.book.specs.Verdicts.{firstFrom, needsMark}
+use Rattle.book.specs.Verdicts.{andThen, firstFrom, needsMark}
 use Rattle.book.specs.declared.state.Book.{Book}
 use Rattle.book.specs.declared.state.Event.{Event}
 use Rattle.book.specs.declared.state.Event.the-variants.{List, Trade, Mark, Intraday, Evening}
@@ -42,7 +42,7 @@ mark option future = Mark (record { series = 0; option = option; future = future
 abbrev pub example : ℕ → list.List Event
 example p =
     List (record { option = Call; category = American; strike = 1700000; tick = 100; «last_day» = 1 })
-    ∷ Trade (record { series = 0; buyer = 1; seller = 2; quantity = 10; price = 15000 })
+    ∷ Trade (record { series = 0; buyer = 1; seller = 2; quantity = 10; price = 15000; «buyer_section» = 0; «seller_section» = 0 })
     ∷ mark p 1702000
     ∷ Intraday
     ∷ mark 15500 1700000
@@ -53,7 +53,7 @@ example p =
 
 -- what is opened to compute with the rules
 rules : Unit {0}
-unfolding choose sumTo sumℕ table placeIn placeOf ofAccount signed cost costIn nearest inTheMoney half automatic exercised rank assigned exercise.shrunk exercise.futures exercise.remaining exercise.arisen passesLimit wasCarriedOut firstFrom needsMark intradayMoneyIn eveningMarginIn eveningMoneyIn intradayMoney eveningMoney decided run
+unfolding choose sumTo sumℕ table placeIn ofAccount gross grossAfter signed cost costIn nearest inTheMoney half automatic exercised rank assigned exercise.shrunk exercise.futures exercise.remaining exercise.arisen passesLimit wasCarriedOut andThen firstFrom needsMark intradayMoneyIn eveningMarginIn eveningMoneyIn intradayMoney eveningMoney decided run
 rules = tt
 
 -- a test at each number below n

@@ -1,8 +1,9 @@
-// Whether a request to exercise or a decline may be made: the conditions, tested in the order of the refusals' numbers.
-use account_places::place_of;
+// Whether a request to exercise or a decline may be made: the conditions, tested in the order of the rule.
+use account_places::place_in;
 use book::state::Today;
 use holders::held;
 use places::PLACES;
+use places::SECTIONS;
 use series::event::Request;
 use series::event::Waiver;
 use series::refusal::Refusal;
@@ -47,18 +48,21 @@ pub fn exercise_verdict(
     if ACCOUNTS <= request.account as usize {
         return Verdict::Refused(Refusal::UnknownAccount);
     }
+    if SECTIONS as u64 <= request.section {
+        return Verdict::Refused(Refusal::UnknownSection);
+    }
     let category = listing.category;
     if too_early(category, today.day, listing.last_day) {
         return Verdict::Refused(Refusal::NotToday);
     }
-    let place = place_of(request.account);
+    let place = place_in(request.account as usize, request.section as usize);
     if (held(positions[place]) as u64) < request.quantity {
         return Verdict::Refused(Refusal::NotHeld);
     }
     Verdict::Allowed
 }
 
-// May this account decline exercise?
+// May this section of an account decline exercise?
 pub fn decline_verdict(today: Today, listing: Listing, waiver: Waiver) -> Verdict
     ensures { λ r. ⌜ r ≡ rule.declineVerdict today listing waiver ⌝ }
 {
@@ -73,6 +77,9 @@ pub fn decline_verdict(today: Today, listing: Listing, waiver: Waiver) -> Verdic
     }
     if ACCOUNTS <= waiver.account as usize {
         return Verdict::Refused(Refusal::UnknownAccount);
+    }
+    if SECTIONS as u64 <= waiver.section {
+        return Verdict::Refused(Refusal::UnknownSection);
     }
     if today.day < listing.last_day {
         return Verdict::Refused(Refusal::NotToday);

@@ -2,8 +2,9 @@
 use decimal::Numeral;
 use rows::types::ByteRead;
 use rows::types::End;
+use rows::types::SectionsRead;
 ghost use mathlib.Core.Path.{_≡_};
-ghost use Rattle.rows.specs.Field.{shortAt, numberAt, heldInByte, byteAt, codeOn, codeEnd};
+ghost use Rattle.rows.specs.Field.{shortAt, numberAt, heldInByte, byteAt, sectionAt, sectionsAt, codeOn, codeEnd};
 ghost use lib.ListN.{drop};
 
 // The most digits of a number, and the least number with more: 10 to the power of them.
@@ -54,6 +55,48 @@ pub fn byte(s: &[u8], at: usize) -> ByteRead
     ByteRead::Byte {
         value: held_in_byte(value),
         next,
+    }
+}
+
+// The section of a request or a decline: 0 where the row ends here.
+pub fn section(s: &[u8], at: usize) -> Numeral
+    ensures { λ r. ⌜ r ≡ sectionAt (now (s .entry)) at ⌝ }
+{
+    if at == s.len() {
+        return Numeral::Value { value: 0, next: at };
+    }
+    number(s, at)
+}
+
+// The sections of a trade, the buyer's and the seller's: both 0 where the row ends here.
+pub fn sections(s: &[u8], at: usize) -> SectionsRead
+    ensures { λ r. ⌜ r ≡ sectionsAt (now (s .entry)) at ⌝ }
+{
+    if at == s.len() {
+        return SectionsRead::Sections {
+            buyer: 0,
+            seller: 0,
+            next: at,
+        };
+    }
+    let Numeral::Value {
+        value: buyer,
+        next: b,
+    } = number(s, at)
+    else {
+        return SectionsRead::NoSections;
+    };
+    let Numeral::Value {
+        value: seller,
+        next: c,
+    } = number(s, b)
+    else {
+        return SectionsRead::NoSections; // one section alone
+    };
+    SectionsRead::Sections {
+        buyer,
+        seller,
+        next: c,
     }
 }
 

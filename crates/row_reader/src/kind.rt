@@ -4,6 +4,7 @@ use decimal::Numeral;
 use rows::types::ByteRead;
 use rows::types::Refusal;
 use rows::types::Row;
+use rows::types::SectionsRead;
 use series::event::Deal;
 use series::event::Quote;
 use series::event::Request;
@@ -21,7 +22,7 @@ fn at_end(s: &[u8], at: usize, event: Event) -> Row
     Row::Refused(Refusal::Row)
 }
 
-// T,series,buyer,seller,quantity,price
+// T,series,buyer,seller,quantity,price, and both sections or neither
 pub fn trade(s: &[u8]) -> Row
     ensures { λ r. ⌜ r ≡ tradeRow (now (s .entry)) ⌝ }
 {
@@ -60,20 +61,30 @@ pub fn trade(s: &[u8]) -> Row
     else {
         return Row::Refused(Refusal::Row);
     };
+    let SectionsRead::Sections {
+        buyer: buyer_section,
+        seller: seller_section,
+        next: f,
+    } = row_fields::sections(s, e)
+    else {
+        return Row::Refused(Refusal::Row);
+    };
     at_end(
         s,
-        e,
+        f,
         Event::Trade(Deal {
             series,
             buyer,
             seller,
             quantity,
             price,
+            buyer_section,
+            seller_section,
         }),
     )
 }
 
-// X,series,account,quantity
+// X,series,account,quantity, and a section or none
 pub fn exercise(s: &[u8]) -> Row
     ensures { λ r. ⌜ r ≡ exerciseRow (now (s .entry)) ⌝ }
 {
@@ -98,18 +109,26 @@ pub fn exercise(s: &[u8]) -> Row
     else {
         return Row::Refused(Refusal::Row);
     };
+    let Numeral::Value {
+        value: section,
+        next: d,
+    } = row_fields::section(s, c)
+    else {
+        return Row::Refused(Refusal::Row);
+    };
     at_end(
         s,
-        c,
+        d,
         Event::Exercise(Request {
             series,
             account,
             quantity,
+            section,
         }),
     )
 }
 
-// D,series,account
+// D,series,account, and a section or none
 pub fn decline(s: &[u8]) -> Row
     ensures { λ r. ⌜ r ≡ declineRow (now (s .entry)) ⌝ }
 {
@@ -127,7 +146,22 @@ pub fn decline(s: &[u8]) -> Row
     else {
         return Row::Refused(Refusal::Row);
     };
-    at_end(s, b, Event::Decline(Waiver { series, account }))
+    let Numeral::Value {
+        value: section,
+        next: c,
+    } = row_fields::section(s, b)
+    else {
+        return Row::Refused(Refusal::Row);
+    };
+    at_end(
+        s,
+        c,
+        Event::Decline(Waiver {
+            series,
+            account,
+            section,
+        }),
+    )
 }
 
 // M,series,option,futures,W

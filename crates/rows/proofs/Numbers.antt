@@ -31,4 +31,5 @@ refusal-table =
       row = refl;
       calendar = refl;
       no-trading-date = refl;
+      unknown-section = refl;
     }

@@ -5,7 +5,7 @@ use Prim.Native.Nat.{ℕ}
 use Rattle.terms.specs.Refusals as no
 use Rattle.contract.specs.declared.types.Refusal.the-variants.{Layout, NoDate, StrikeText}
 use Rattle.series.specs.Refusals.{number}
-use Rattle.series.specs.declared.refusal.Refusal.the-variants.{Finished, UnknownSeries, Expired, UnknownAccount, OwnTrade, Size, Price, PositionLimit, BlotterFull, Terms, SeriesFull, NotToday, NotHeld, TickValue, SecondIntraday, NoMark}
+use Rattle.series.specs.declared.refusal.Refusal.the-variants.{Finished, UnknownSeries, Expired, UnknownAccount, UnknownSection, OwnTrade, Size, Price, PositionLimit, BlotterFull, Terms, SeriesFull, NotToday, NotHeld, TickValue, SecondIntraday, NoMark}
 use Rattle.rows.specs.Row as rows
 use Rattle.rows.specs.declared.types.Refusal.the-variants.{Row, Code, NoTradingDate}
 
@@ -32,3 +32,4 @@ pub record RefusalTable : Type 0 where
   pub row : rows.number Row ≡ 20
   pub calendar : no.calendar ≡ 21
   pub no-trading-date : rows.number NoTradingDate ≡ 22
+  pub unknown-section : number UnknownSection ≡ 23

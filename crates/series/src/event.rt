@@ -19,19 +19,23 @@ pub struct Deal {
     pub seller: u8,
     pub quantity: u64,
     pub price: u64,
+    pub buyer_section: u64,
+    pub seller_section: u64,
 }
 
-// A request to exercise.
+// A request to exercise, for a section of an account.
 pub struct Request {
     pub series: u8,
     pub account: u8,
     pub quantity: u64,
+    pub section: u64,
 }
 
-// A holder's refusal of exercise.
+// A holder's refusal of exercise, for a section of an account.
 pub struct Waiver {
     pub series: u8,
     pub account: u8,
+    pub section: u64,
 }
 
 // The settlement prices of a series' option and future, and its tick value.

@@ -12,11 +12,10 @@ ghost use Prim.Native.Nat.{ℕ, _<_};
 ghost use lib.IntN.{pos};
 ghost use lib.ListN.{getD};
 ghost use Rattle.choice.specs.Choice.{choose};
-ghost use Rattle.integer.specs.Bounds.{Bounded};
 ghost use Rattle.integer.specs.Table.{at, table};
 ghost use Rattle.margin.specs.BySeries.{bySeries, inSeries};
 ghost use Rattle.margin.specs.Margin.{CostsIn, marginOf};
-ghost use Rattle.places.specs.Places.{ofAccount};
+ghost use Rattle.places.specs.Places.{ofAccount, Limited};
 ghost use Rattle.terms.specs.Bounds.{seriesRoom, maxPosition};
 ghost use Rattle.series.specs.Good.{GoodSeries};
 ghost use Rattle.series.specs.Series.{expired, positionOf};
@@ -47,7 +46,7 @@ fn revalue_series(
     next: Series,
     day: u32,
 )
-    requires { ⌜ (CostsIn i (now amounts)) × (GoodSeries day s) × (Bounded maxPosition (next .positions)) ⌝ }
+    requires { ⌜ (CostsIn i (now amounts)) × (GoodSeries day s) × (Limited maxPosition (next .positions)) ⌝ }
     ensures { λ r. ⌜ now (amounts .exit) ≡ choose (not (expired s day)) (inSeries i (λ a cost. marginOf (s .mark .coefficient) (positionOf next a) (s .mark .option) (ofAccount (at (s .opening)) a) (s .«evening_price») cost) (now (amounts .entry))) (now (amounts .entry)) ⌝ }
 {
     if s.listing.last_day < day {
@@ -64,7 +63,7 @@ fn revalue_series(
 // The variation margin of each live series and account, where `after` are the series after the session: what positions gain, less what
 // the day's trades cost.
 pub fn variation_margin(book: Book, after: [Series; SERIES]) -> [i64; SERIES * ACCOUNTS]
-    requires { ⌜ (Good book) × ((i : ℕ) → i < seriesRoom → Bounded maxPosition (getD after i noSeries .positions)) ⌝ }
+    requires { ⌜ (Good book) × ((i : ℕ) → i < seriesRoom → Limited maxPosition (getD after i noSeries .positions)) ⌝ }
     ensures { λ r. ⌜ r ≡ bySeries (λ i a. choose (live book i) (marginIn book i a (seriesAt book i .mark .option) (positionOf (getD after i noSeries) a)) (pos 0)) ⌝ }
 {
     let blotter = book.blotter;

@@ -89,3 +89,7 @@ calendar = 21
 -- no trading date: in a row that ends after R the code's date isn't in the calendar; directly after 19
 abbrev pub noTradingDate : ℕ
 noTradingDate = 22
+
+-- unknown section: above 1; of a trade, either side's; directly after 4
+abbrev pub unknownSection : ℕ
+unknownSection = 23

@@ -42,3 +42,5 @@ pub const ROW: u64 = 20;
 pub const CALENDAR: u64 = 21;
 
 pub const NO_TRADING_DATE: u64 = 22;
+
+pub const UNKNOWN_SECTION: u64 = 23;

@@ -1,31 +1,18 @@
-// Whether a trade may be made: the conditions, tested in the order of the refusals' numbers.
-use account_places::place_of;
+// Whether a trade may be made: the conditions, tested in the order of the rule.
 use book::state::Today;
 use places::PLACES;
+use position_limit::limit;
 use series::event::Deal;
 use series::refusal::Refusal;
 use series::refusal::Verdict;
 use series::state::Listing;
-use terms::bounds::ACCOUNTS;
 use terms::bounds::BLOTTER;
 use terms::bounds::FINAL_DAY;
-use terms::bounds::MAX_OPTION_PRICE;
-use terms::bounds::MAX_POSITION;
-use terms::bounds::MAX_QUANTITY;
+use trade_parties::parties;
+use trade_terms::price;
 ghost use mathlib.Core.Path.{_≡_};
 ghost use Prim.Native.Nat.{_<_};
-ghost use Rattle.series.specs.Conditions.{passesLimit};
 ghost use Rattle.book.specs.Verdicts as rule;
-
-// Is a position, without its sign, above its bound?
-fn passes_limit(position: i64) -> bool
-    ensures { λ r. ⌜ r ≡ passesLimit position ⌝ }
-{
-    if position < 0 {
-        return position < -MAX_POSITION;
-    }
-    MAX_POSITION < position
-}
 
 // May this trade be made, in a series of this listing and these positions?
 pub fn trade_verdict(
@@ -46,36 +33,14 @@ pub fn trade_verdict(
     if listing.last_day < today.day {
         return Verdict::Refused(Refusal::Expired);
     }
-    let x = deal.buyer as usize;
-    let y = deal.seller as usize;
-    if ACCOUNTS <= x {
-        return Verdict::Refused(Refusal::UnknownAccount);
+    if let Verdict::Refused(why) = parties(deal) {
+        return Verdict::Refused(why);
     }
-    if ACCOUNTS <= y {
-        return Verdict::Refused(Refusal::UnknownAccount);
+    if let Verdict::Refused(why) = price(listing.tick, deal) {
+        return Verdict::Refused(why);
     }
-    if x == y {
-        return Verdict::Refused(Refusal::OwnTrade);
-    }
-    if deal.quantity < 1 {
-        return Verdict::Refused(Refusal::Size);
-    }
-    if MAX_QUANTITY < deal.quantity {
-        return Verdict::Refused(Refusal::Size);
-    }
-    if MAX_OPTION_PRICE < deal.price {
-        return Verdict::Refused(Refusal::Price);
-    }
-    if 0 < deal.price % listing.tick as u64 {
-        return Verdict::Refused(Refusal::Price);
-    }
-    let buyer = place_of(deal.buyer);
-    let seller = place_of(deal.seller);
-    if passes_limit(positions[buyer] as i64 + deal.quantity as i64) {
-        return Verdict::Refused(Refusal::PositionLimit);
-    }
-    if passes_limit(positions[seller] as i64 - deal.quantity as i64) {
-        return Verdict::Refused(Refusal::PositionLimit);
+    if let Verdict::Refused(why) = limit(positions, deal) {
+        return Verdict::Refused(why);
     }
     if BLOTTER <= today.trades {
         return Verdict::Refused(Refusal::BlotterFull);

@@ -25,6 +25,8 @@ pub fn trade(today: Today, listing: Listing, positions: &[i32; PLACES], deal: De
         series: deal.series,
         buyer: deal.buyer,
         seller: deal.seller,
+        buyer_section: deal.buyer_section as u8,
+        seller_section: deal.seller_section as u8,
         quantity: deal.quantity as u16,
         price: deal.price as u32,
     };

@@ -10,13 +10,17 @@ enum-known-effect : tie.Need-enum-known-effect
 enum-known-effect c = search needs
 
 decline-requires : tie.Need-decline-requires
-decline-requires c κs = fits-request (rw (c .before .before .effect .given .1) at (c .before .before .before .before .pre)) .account
+decline-requires c κs =
+    let f = fits-request (rw (c .before .before .effect .given .1) at (c .before .before .before .before .pre)) in
+    (f .account, f .section)
 
 enum-known-effect-2 : tie.Need-enum-known-effect-2
 enum-known-effect-2 c = search needs
 
 decline-requires-2 : tie.Need-decline-requires-2
-decline-requires-2 c κs = fits-waiver (rw (c .before .before .effect2 .given .1) at (c .before .before .before .before .pre)) .account
+decline-requires-2 c κs =
+    let f = fits-waiver (rw (c .before .before .effect2 .given .1) at (c .before .before .before .before .pre)) in
+    (f .account, f .section)
 
 returns : tie.Need-returns
 returns c = rw (c .before .before .before .effect .given .1) (c .decline .ensures)

@@ -6,7 +6,7 @@ use Rattle.integer.proofs.Machine.{any}
 use Rattle.report.specs.Lines.{countText}
 use Rattle.report.proofs.OneLine.{futures-put, no-futures-put}
 use Rattle.report.proofs.Fields.{text-of}
-use Rattle.line_fields.proofs.WithoutSign.{zero-test, other-test}
+use Rattle.magnitude.proofs.WithoutSign.{zero-test, other-test}
 use Rattle.lines.proofs.futures.Statement.{statement}
 use Rattle.lines.proofs.futures.Tie as tie
 

@@ -6,7 +6,7 @@ use Rattle.integer.proofs.Machine.{any}
 use Rattle.report.specs.Lines.{amountText}
 use Rattle.report.proofs.OneLine.{money-put, no-money-put}
 use Rattle.report.proofs.Fields.{text-of}
-use Rattle.line_fields.proofs.WithoutSign.{zero-test, other-test}
+use Rattle.magnitude.proofs.WithoutSign.{zero-test, other-test}
 use Rattle.lines.proofs.money.Statement.{statement}
 use Rattle.lines.proofs.money.Tie as tie
 

@@ -1,3 +1,4 @@
+-- `request_verdict::decline_verdict` meets its contract: the tests are those of the rule, in its order.
 use Rattle.choice.proofs.Chain.{hit, past, tests}
 use borrow.Author.Needs.{needs}
 use Rattle.request_verdict.proofs.decline_verdict.Statement.{statement}
@@ -27,7 +28,19 @@ returns-5 c = search (hit, past, tests) depth 28
 returns-6 : tie.Need-returns-6
 returns-6 c = search (hit, past, tests) depth 28
 
+returns-7 : tie.Need-returns-7
+returns-7 c = search (hit, past, tests) depth 28
+
 pub decline-verdict-spec : {M : Type 1} → statement M
 decline-verdict-spec =
     tie.close
-    (tie.spec returns cast-if2 returns-2 returns-3 cast-if4 returns-4 returns-5 returns-6)
+    (tie.spec
+    returns
+    cast-if2
+    returns-2
+    returns-3
+    cast-if4
+    returns-4
+    returns-5
+    returns-6
+    returns-7)

@@ -25,7 +25,7 @@ revalue-requires c κs =
       b .pre .0,
       record {
         positions = b .pre .2;
-        opening = g .opening .bounded;
+        opening = g .opening-limited;
         value = rw (v .before .value .ensures) (option-value-bound _ _ (g .coefficient) (g .option));
         evening = rw (v .value2 .ensures) (option-value-bound _ _ (g .coefficient) (g .price));
       },

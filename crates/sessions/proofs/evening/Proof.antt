@@ -15,7 +15,7 @@ use Rattle.book.specs.declared.state.Answer.the-variants.{Done}
 use Rattle.book.specs.declared.state.Event.the-variants.{Evening}
 use Rattle.book.proofs.Money.{evening-within, cash-bounded}
 use Rattle.book.proofs.Decided.{by-refusal, by-allowance, mark-missing, none-missing}
-use Rattle.book.proofs.SessionMoney.{paidFor, settled-bounded, evening-is, evening-bounded, rest-bounded, evening-in-all, paid-into}
+use Rattle.book.proofs.SessionMoney.{paidFor, settled-limited, evening-is, evening-bounded, rest-bounded, evening-in-all, paid-into}
 use borrow.Author.Needs.{needs}
 use Rattle.sessions.proofs.evening.Statement.{statement}
 use Rattle.sessions.proofs.evening.Tie as tie
@@ -81,7 +81,7 @@ settle-all-requires c κs = search needs
 variation-margin-requires : tie.Need-variation-margin-requires
 variation-margin-requires c κs =
     let s = start c in
-    (s .pre, settled-bounded (s .args .book) (s .pre) _ (c .settle-all .ensures))
+    (s .pre, settled-limited (s .args .book) (s .pre) _ (c .settle-all .ensures))
 
 less-requires : tie.Need-less-requires
 less-requires c κs =

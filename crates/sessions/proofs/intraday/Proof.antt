@@ -13,7 +13,7 @@ use Rattle.book.specs.declared.state.Answer.the-variants.{Done}
 use Rattle.book.specs.declared.state.Event.the-variants.{Intraday}
 use Rattle.book.proofs.Money.{intraday-within, cash-bounded}
 use Rattle.book.proofs.Decided.{by-refusal, by-allowance, mark-missing, none-missing}
-use Rattle.book.proofs.SessionMoney.{paidFor, unmarked-bounded, intraday-is, intraday-bounded, intraday-in-all, paid-into}
+use Rattle.book.proofs.SessionMoney.{paidFor, unmarked-limited, intraday-is, intraday-bounded, intraday-in-all, paid-into}
 use borrow.Author.Needs.{needs}
 use Rattle.sessions.proofs.intraday.Statement.{statement}
 use Rattle.sessions.proofs.intraday.Tie as tie
@@ -75,7 +75,7 @@ unmark-all-requires c κs = search needs
 variation-margin-requires : tie.Need-variation-margin-requires
 variation-margin-requires c κs =
     let s = start c in
-    (s .pre, unmarked-bounded (s .args .book) (s .pre) _ (c .unmark-all .ensures))
+    (s .pre, unmarked-limited (s .args .book) (s .pre) _ (c .unmark-all .ensures))
 
 in-all-requires : tie.Need-in-all-requires
 in-all-requires c κs =

@@ -1,4 +1,4 @@
--- `requests::change::request` meets its contract: the store is at the account's place.
+-- `requests::change::request` meets its contract: the store is at the place of the account's section.
 use mathlib.Core.Path.{ap}
 use Prim.Native.Nat.{ℕ}
 use lib.ListN.{set}
@@ -6,8 +6,8 @@ use borrow.Author.Needs.{needs}
 use Rattle.requests.proofs.change.request.Statement.{statement}
 use Rattle.requests.proofs.change.request.Tie as tie
 
-place-of-requires : tie.Need-place-of-requires
-place-of-requires c κs = search needs
+place-in-requires : tie.Need-place-in-requires
+place-in-requires c κs = search needs
 
 mul-requests : tie.Need-mul-requests
 mul-requests c = search needs
@@ -16,7 +16,7 @@ element-write-requests : tie.Need-element-write-requests
 element-write-requests c = search needs
 
 returns : tie.Need-returns
-returns c = ap (λ (k : ℕ). set (c .before .args .requests .now) k (c .before .args .quantity)) (c .place-of .ensures .0)
+returns c = ap (λ (k : ℕ). set (c .before .args .requests .now) k (c .before .args .quantity)) (c .place-in .ensures .0)
 
 pub request-spec : {M : Type 1} → statement M
-request-spec = tie.close (tie.spec place-of-requires mul-requests element-write-requests returns)
+request-spec = tie.close (tie.spec place-in-requires mul-requests element-write-requests returns)

@@ -31,12 +31,25 @@ returns-2 : tie.Need-returns-2
 unfolding declineRow
 returns-2 c = search fields depth 12
 
-at-end-requires : tie.Need-at-end-requires
-at-end-requires c κs = search needs
+section-requires : tie.Need-section-requires
+section-requires c κs = search needs
+
+enum-known-section : tie.Need-enum-known-section
+enum-known-section c = search needs
+
+enum-told-3 : tie.Need-enum-told-3
+enum-told-3 c = search needs
 
 returns-3 : tie.Need-returns-3
 unfolding declineRow
 returns-3 c = search fields depth 12
+
+at-end-requires : tie.Need-at-end-requires
+at-end-requires c κs = search needs
+
+returns-4 : tie.Need-returns-4
+unfolding declineRow
+returns-4 c = search fields depth 12
 
 pub decline-spec : {M : Type 1} → statement M
 decline-spec =
@@ -50,5 +63,9 @@ decline-spec =
     enum-known-account
     enum-told-2
     returns-2
+    section-requires
+    enum-known-section
+    enum-told-3
+    returns-3
     at-end-requires
-    returns-3)
+    returns-4)

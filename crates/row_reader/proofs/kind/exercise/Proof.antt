@@ -44,12 +44,25 @@ returns-3 : tie.Need-returns-3
 unfolding exerciseRow
 returns-3 c = search fields depth 12
 
-at-end-requires : tie.Need-at-end-requires
-at-end-requires c κs = search needs
+section-requires : tie.Need-section-requires
+section-requires c κs = search needs
+
+enum-known-section : tie.Need-enum-known-section
+enum-known-section c = search needs
+
+enum-told-4 : tie.Need-enum-told-4
+enum-told-4 c = search needs
 
 returns-4 : tie.Need-returns-4
 unfolding exerciseRow
 returns-4 c = search fields depth 12
+
+at-end-requires : tie.Need-at-end-requires
+at-end-requires c κs = search needs
+
+returns-5 : tie.Need-returns-5
+unfolding exerciseRow
+returns-5 c = search fields depth 12
 
 pub exercise-spec : {M : Type 1} → statement M
 exercise-spec =
@@ -67,5 +80,9 @@ exercise-spec =
     enum-known-quantity
     enum-told-3
     returns-3
+    section-requires
+    enum-known-section
+    enum-told-4
+    returns-4
     at-end-requires
-    returns-4)
+    returns-5)

@@ -1,9 +1,15 @@
 -- `row_reader::kind::trade` meets its contract.
 use borrow.Author.Needs.{needs}
+use Rattle.rows.proofs.Fields.{byte-value}
 use Rattle.rows.proofs.Readers.{fields}
 use Rattle.rows.specs.Row.{tradeRow}
 use Rattle.row_reader.proofs.kind.trade.Statement.{statement}
 use Rattle.row_reader.proofs.kind.trade.Tie as tie
+
+-- the place behind the first field, from the row's end: `search` does not reach so far back
+module _ (c : tie.After-at-end) where
+  abbrev first : tie.After-known-told
+  first = c .before .before .before .before .before .before .before .before .before .before .before .before .before .before .before .before .before .before .before .before .before
 
 byte-requires : tie.Need-byte-requires
 byte-requires c κs = search needs
@@ -70,12 +76,26 @@ returns-5 : tie.Need-returns-5
 unfolding tradeRow
 returns-5 c = search fields depth 12
 
-at-end-requires : tie.Need-at-end-requires
-at-end-requires c κs = search needs
+sections-requires : tie.Need-sections-requires
+sections-requires c κs = search needs
+
+enum-known-buyer-section : tie.Need-enum-known-buyer-section
+enum-known-buyer-section c = search needs
+
+enum-told-6 : tie.Need-enum-told-6
+enum-told-6 c = search needs
 
 returns-6 : tie.Need-returns-6
 unfolding tradeRow
 returns-6 c = search fields depth 12
+
+at-end-requires : tie.Need-at-end-requires
+at-end-requires c κs = search needs
+
+returns-7 : tie.Need-returns-7
+unfolding tradeRow
+returns-7 c =
+    byte-value _ _ _ _ _ _ _ (first c .before .before .before .byte .ensures) (first c .before .series .given .1) (search fields depth 12)
 
 pub trade-spec : {M : Type 1} → statement M
 trade-spec =
@@ -101,5 +121,9 @@ trade-spec =
     enum-known-price
     enum-told-5
     returns-5
+    sections-requires
+    enum-known-buyer-section
+    enum-told-6
+    returns-6
     at-end-requires
-    returns-6)
+    returns-7)

@@ -7,33 +7,47 @@ use lib.ListN.{set}
 use mir.Syntax.{w32}
 use Rattle.integer.proofs.Machine.{Reads, nat, fits, more, fewer, moved-is}
 use Rattle.integer.specs.Table.{at}
-use Rattle.places.proofs.Places.{place-of-other}
+use Rattle.places.proofs.Places.{other-account}
 use borrow.Author.Needs.{needs}
 use Rattle.trading.proofs.change.trade.Statement.{statement}
 use Rattle.trading.proofs.change.trade.Tie as tie
 
-module _ (c : tie.After-place-of2) where
+module _ (c : tie.After-place-in2) where
   abbrev start : tie.Start
-  start = c .before .before
+  start = c .before .before .before .before .before .before
 
   -- the places of buyer and seller
   abbrev x : ℕ
-  x = c .before .place-of .result
+  x = c .before .before .before .place-in .result
 
   abbrev y : ℕ
-  y = c .place-of2 .result
+  y = c .place-in2 .result
 
   apart : x ≢ y
-  apart e = place-of-other (start .pre .0 .apart) (sym (c .before .place-of .ensures .0) ∙ e ∙ c .place-of2 .ensures .0)
+  apart e =
+      other-account (start .args .t .«buyer_section») (start .args .t .«seller_section») (start .pre .0 .buyer-section) (start .pre .0 .seller-section) (start .pre .0 .apart)
+      (sym (c .before .before .before .place-in .ensures .0) ∙ e ∙ c .place-in2 .ensures .0)
 
   abbrev quantity : Reads 1000 (pos (start .args .t .quantity))
   quantity = nat w32 (start .pre .0 .quantity) tt
 
-place-of-requires : tie.Need-place-of-requires
-place-of-requires c κs = search needs
+cast-place-in : tie.Need-cast-place-in
+cast-place-in c = search needs
 
-place-of-requires-2 : tie.Need-place-of-requires-2
-place-of-requires-2 c κs = search needs
+cast-place-in-2 : tie.Need-cast-place-in-2
+cast-place-in-2 c = search needs
+
+place-in-requires : tie.Need-place-in-requires
+place-in-requires c κs = search needs
+
+cast-place-in-3 : tie.Need-cast-place-in-3
+cast-place-in-3 c = search needs
+
+cast-place-in-4 : tie.Need-cast-place-in-4
+cast-place-in-4 c = search needs
+
+place-in-requires-2 : tie.Need-place-in-requires-2
+place-in-requires-2 c κs = search needs
 
 cast-q : tie.Need-cast-q
 cast-q c = search needs
@@ -66,8 +80,8 @@ sub-positions c =
     let b = c .before .before .before in
     fits w32 (fewer w32 (start b .args .positions .now) (x b) (y b) (apart b) (start b .pre .1) (quantity b) tt tt) tt
 
-mul-t11 : tie.Need-mul-t11
-mul-t11 c = search needs
+mul-t7 : tie.Need-mul-t7
+mul-t7 c = search needs
 
 element-set-from-positions-2 : tie.Need-element-set-from-positions-2
 element-set-from-positions-2 c = search needs
@@ -78,14 +92,18 @@ returns c =
     let l = start b .args .positions .now in
     let q = pos (start b .args .t .quantity) in
     moved-is w32 l (x b) (y b) (apart b) (start b .pre .1) (quantity b) tt tt
-    ∙ ap₂ (λ (i j : ℕ). set (set l i (at l i +ℤ q)) j (at l j -ℤ q)) (b .before .place-of .ensures .0) (b .place-of2 .ensures .0)
+    ∙ ap₂ (λ (i j : ℕ). set (set l i (at l i +ℤ q)) j (at l j -ℤ q)) (b .before .before .before .place-in .ensures .0) (b .place-in2 .ensures .0)
 
 pub trade-spec : {M : Type 1} → statement M
 trade-spec =
     tie.close
     (tie.spec
-    place-of-requires
-    place-of-requires-2
+    cast-place-in
+    cast-place-in-2
+    place-in-requires
+    cast-place-in-3
+    cast-place-in-4
+    place-in-requires-2
     cast-q
     mul-positions
     element-copy-out-positions
@@ -95,6 +113,6 @@ trade-spec =
     mul-positions-3
     element-copy-out-positions-2
     sub-positions
-    mul-t11
+    mul-t7
     element-set-from-positions-2
     returns)

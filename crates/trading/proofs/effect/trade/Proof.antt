@@ -28,17 +28,32 @@ enum-told : tie.Need-enum-told
 enum-told c = search needs
 
 cast-t8 : tie.Need-cast-t8
-cast-t8 c = omega (arith, allowed (c .before) .most)
+cast-t8 c = omega (arith, allowed (c .before) .buyer-section)
 
 cast-t9 : tie.Need-cast-t9
-cast-t9 c = omega (arith, allowed (c .before .before) .price)
+cast-t9 c = omega (arith, allowed (c .before .before) .seller-section)
+
+cast-t10 : tie.Need-cast-t10
+cast-t10 c = omega (arith, allowed (c .before .before .before) .most)
+
+cast-t11 : tie.Need-cast-t11
+cast-t11 c = omega (arith, allowed (c .before .before .before .before) .price)
 
 returns-2 : tie.Need-returns-2
 returns-2 c =
-    let t = c .before .before in
+    let t = c .before .before .before .before in
     effect-allowed _ refl (verdict-is (t .before .before .trade-verdict .ensures) (t .enum-told .given .1))
 
 pub trade-spec : {M : Type 1} → statement M
 trade-spec =
     tie.close
-    (tie.spec trade-verdict-requires enum-known-why returns enum-told cast-t8 cast-t9 returns-2)
+    (tie.spec
+    trade-verdict-requires
+    enum-known-why
+    returns
+    enum-told
+    cast-t8
+    cast-t9
+    cast-t10
+    cast-t11
+    returns-2)
