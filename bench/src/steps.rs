@@ -5,7 +5,7 @@ use std::hint::black_box;
 use std::process::ExitCode;
 use std::time::Instant;
 
-use second::book::{Book, Category, Event, OptionType, SERIES, TRADES_A_DAY};
+use second::book::{Book, Category, Event, OptionType, Party, SERIES, TRADES_A_DAY};
 
 const DAYS: u64 = 1_000;
 const RUNS: u32 = 20;
@@ -59,8 +59,14 @@ fn listing(n: usize) -> Event {
 }
 
 fn trade(n: usize) -> Event {
-    let buyer = (n / 8) as u8;
-    Event::Trade { series: n as u8 % 8, buyer, seller: buyer + 32, quantity: n as u64 + 1, price: n as u64 + 5_000 }
+    let account = (n / 8) as u8;
+    Event::Trade {
+        series: n as u8 % 8,
+        buyer: Party { account, section: 0 },
+        seller: Party { account: account + 32, section: 0 },
+        quantity: n as u64 + 1,
+        price: n as u64 + 5_000,
+    }
 }
 
 fn mark(n: usize) -> Event {

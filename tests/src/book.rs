@@ -1,5 +1,6 @@
 //! RULES, "Events": the book, its seven events and the two sessions.
 
+use std::array;
 use std::cmp::Reverse;
 use std::ops::RangeInclusive;
 
@@ -8,6 +9,7 @@ use crate::value::{coefficient, value};
 
 // RULES, "Units and bounds".
 pub const ACCOUNTS: usize = 64;
+pub const SECTIONS: usize = 2;
 pub const SERIES: usize = 8;
 pub const LAST_DAY: u64 = 999;
 pub const TRADES_A_DAY: usize = 256;
@@ -19,6 +21,22 @@ pub const FUTURES_PRICE: RangeInclusive<u64> = 0..=10_000_000;
 /// The bounds of W, and of c too.
 pub const TICK_VALUE: RangeInclusive<u64> = 1..=200_000_000;
 pub const QUANTITY: RangeInclusive<u64> = 1..=1_000;
+
+/// RULES, "Accounts and sections": something for each place, by account and then section.
+pub type Places<T> = [[T; SECTIONS]; ACCOUNTS];
+
+pub const NOTHING: Places<i64> = [[0; SECTIONS]; ACCOUNTS];
+pub const NOBODY: Places<bool> = [[false; SECTIONS]; ACCOUNTS];
+
+/// What an account has in its sections, added with sign.
+pub fn net(sections: &[i64; SECTIONS]) -> i64 {
+    sections.iter().sum()
+}
+
+/// What an account has in its sections, added without sign.
+pub fn gross(sections: &[i64; SECTIONS]) -> i64 {
+    sections.iter().map(|amount| amount.abs()).sum()
+}
 
 #[derive(Clone, Copy, Debug, PartialEq, Eq)]
 pub enum OptionType {
@@ -32,12 +50,19 @@ pub enum Category {
     European,
 }
 
+/// An account's section as an event names it; either number may be out of bounds.
+#[derive(Clone, Copy, Debug, PartialEq, Eq)]
+pub struct Party {
+    pub account: u8,
+    pub section: u64,
+}
+
 #[derive(Clone, Copy, Debug, PartialEq, Eq)]
 pub enum Event {
     List { option: OptionType, category: Category, strike: u64, tick: u64, last_day: u64 },
-    Trade { series: u8, buyer: u8, seller: u8, quantity: u64, price: u64 },
-    Exercise { series: u8, account: u8, quantity: u64 },
-    Decline { series: u8, account: u8 },
+    Trade { series: u8, buyer: Party, seller: Party, quantity: u64, price: u64 },
+    Exercise { series: u8, holder: Party, quantity: u64 },
+    Decline { series: u8, holder: Party },
     Mark { series: u8, option: u64, futures: u64, tick_value: u64 },
     Intraday,
     Evening,
@@ -52,7 +77,7 @@ pub enum Done {
 }
 
 /// What a session brought: each account's money in kopecks, plus is received; and the futures that arose, as
-/// (series, account, count) in this order, none of them 0.
+/// (series, account, count) in this order, an account's sections added with sign and none of these sums 0.
 #[derive(Clone, Debug, PartialEq, Eq)]
 pub struct Session {
     pub money: [i64; ACCOUNTS],
@@ -77,15 +102,16 @@ pub struct Series {
     /// b, the option price of the last evening.
     pub evening_price: u64,
     /// n, the positions now.
-    pub positions: [i64; ACCOUNTS],
+    pub positions: Places<i64>,
     /// B, the positions at the day's start.
-    pub opening: [i64; ACCOUNTS],
-    pub requests: [i64; ACCOUNTS],
-    pub declined: [bool; ACCOUNTS],
+    pub opening: Places<i64>,
+    pub requests: Places<i64>,
+    pub declined: Places<bool>,
     /// All futures that have arisen from the series.
-    pub futures: [i64; ACCOUNTS],
+    pub futures: Places<i64>,
 }
 
+/// A trade of the blotter. Its money is the accounts', whatever their sections.
 #[derive(Clone, Copy, Debug, PartialEq, Eq)]
 pub struct Trade {
     pub series: u8,
@@ -126,8 +152,8 @@ impl Book {
         }
     }
 
-    /// Carries out an event, or refuses it by the lowest number that applies and changes nothing: each event's tests
-    /// stand in the order of their numbers, before its first change.
+    /// Carries out an event, or refuses it by the lowest number that applies, 23 directly after 4, and changes nothing:
+    /// each event's tests stand in this order, before its first change.
     pub fn apply(&mut self, event: Event) -> Result<Done, Refusal> {
         refuse_if(self.day > LAST_DAY, Refusal::Finished)?;
         match event {
@@ -137,10 +163,10 @@ impl Book {
             Event::Trade { series, buyer, seller, quantity, price } => {
                 self.trade(series, buyer, seller, quantity, price).map(|()| Done::Entered)
             }
-            Event::Exercise { series, account, quantity } => {
-                self.exercise(series, account, quantity).map(|()| Done::Entered)
+            Event::Exercise { series, holder, quantity } => {
+                self.exercise(series, holder, quantity).map(|()| Done::Entered)
             }
-            Event::Decline { series, account } => self.decline(series, account).map(|()| Done::Entered),
+            Event::Decline { series, holder } => self.decline(series, holder).map(|()| Done::Entered),
             Event::Mark { series, option, futures, tick_value } => {
                 self.mark(series, option, futures, tick_value).map(|()| Done::Entered)
             }
@@ -168,54 +194,55 @@ impl Book {
             last_day,
             mark: None,
             evening_price: 0,
-            positions: [0; ACCOUNTS],
-            opening: [0; ACCOUNTS],
-            requests: [0; ACCOUNTS],
-            declined: [false; ACCOUNTS],
-            futures: [0; ACCOUNTS],
+            positions: NOTHING,
+            opening: NOTHING,
+            requests: NOTHING,
+            declined: NOBODY,
+            futures: NOTHING,
         });
         Ok((self.series.len() - 1) as u8)
     }
 
-    fn trade(&mut self, number: u8, buyer: u8, seller: u8, quantity: u64, price: u64) -> Result<(), Refusal> {
+    fn trade(&mut self, number: u8, buyer: Party, seller: Party, quantity: u64, price: u64) -> Result<(), Refusal> {
         let blotter_is_full = self.blotter.len() == TRADES_A_DAY;
         let series = self.live_series(number)?;
-        check_account(buyer)?;
-        check_account(seller)?;
-        refuse_if(buyer == seller, Refusal::OwnTrade)?;
+        let [buys, sells] = places([buyer, seller])?;
+        refuse_if(buys.account == sells.account, Refusal::OwnTrade)?;
         refuse_if(!QUANTITY.contains(&quantity), Refusal::Size)?;
         refuse_if(!OPTION_PRICE.contains(&price) || price % series.tick != 0, Refusal::Price)?;
         let quantity = quantity as i64;
-        let bought = series.positions[usize::from(buyer)] + quantity;
-        let sold = series.positions[usize::from(seller)] - quantity;
-        refuse_if(bought > POSITION_LIMIT || sold < -POSITION_LIMIT, Refusal::PositionLimit)?;
+        let mut bought = series.positions[buys.account];
+        bought[buys.section] += quantity;
+        let mut sold = series.positions[sells.account];
+        sold[sells.section] -= quantity;
+        refuse_if(gross(&bought) > POSITION_LIMIT || gross(&sold) > POSITION_LIMIT, Refusal::PositionLimit)?;
         refuse_if(blotter_is_full, Refusal::BlotterFull)?;
-        series.positions[usize::from(buyer)] = bought;
-        series.positions[usize::from(seller)] = sold;
-        self.blotter.push(Trade { series: number, buyer, seller, quantity, price });
+        series.positions[buys.account] = bought;
+        series.positions[sells.account] = sold;
+        self.blotter.push(Trade { series: number, buyer: buyer.account, seller: seller.account, quantity, price });
         Ok(())
     }
 
-    fn exercise(&mut self, number: u8, account: u8, quantity: u64) -> Result<(), Refusal> {
+    fn exercise(&mut self, number: u8, holder: Party, quantity: u64) -> Result<(), Refusal> {
         let day = self.day;
         let series = self.live_series(number)?;
-        check_account(account)?;
+        let [Place { account, section }] = places([holder])?;
         let too_early = series.category == Category::European && day < series.last_day;
         refuse_if(too_early, Refusal::NotToday)?;
-        let held = series.positions[usize::from(account)].max(0);
+        let held = series.positions[account][section].max(0);
         refuse_if(quantity > held as u64, Refusal::NotHeld)?;
-        series.requests[usize::from(account)] = quantity as i64;
-        series.declined[usize::from(account)] = false;
+        series.requests[account][section] = quantity as i64;
+        series.declined[account][section] = false;
         Ok(())
     }
 
-    fn decline(&mut self, number: u8, account: u8) -> Result<(), Refusal> {
+    fn decline(&mut self, number: u8, holder: Party) -> Result<(), Refusal> {
         let day = self.day;
         let series = self.live_series(number)?;
-        check_account(account)?;
+        let [Place { account, section }] = places([holder])?;
         refuse_if(day < series.last_day, Refusal::NotToday)?;
-        series.requests[usize::from(account)] = 0;
-        series.declined[usize::from(account)] = true;
+        series.requests[account][section] = 0;
+        series.declined[account][section] = true;
         Ok(())
     }
 
@@ -251,7 +278,7 @@ impl Book {
                 series.settle_exercise(day, number as u8, &mut futures);
             }
             if day == series.last_day {
-                series.positions = [0; ACCOUNTS];
+                series.positions = NOTHING;
             }
         }
         let mut money = self.variation_margin();
@@ -299,7 +326,7 @@ impl Book {
             let now = value(mark.option, mark.coefficient);
             let before = value(series.evening_price, mark.coefficient);
             for account in 0..ACCOUNTS {
-                money[account] += series.positions[account] * now - series.opening[account] * before;
+                money[account] += net(&series.positions[account]) * now - net(&series.opening[account]) * before;
             }
         }
         for trade in &self.blotter {
@@ -320,37 +347,41 @@ impl Book {
 impl Series {
     /// Exercise and assignment of an evening: positions shrink and futures arise.
     fn settle_exercise(&mut self, day: u64, number: u8, arisen: &mut Vec<(u8, u8, i64)>) {
-        let exercised: [i64; ACCOUNTS] = std::array::from_fn(|account| self.exercised(account, day));
-        let total = exercised.iter().sum();
+        let exercised: Places<i64> =
+            array::from_fn(|account| array::from_fn(|section| self.exercised(account, section, day)));
+        let total = exercised.as_flattened().iter().sum();
         if total == 0 {
             return;
         }
-        let short = self.positions.map(|position| (-position).max(0));
+        let short = self.positions.map(|sections| sections.map(|position| (-position).max(0)));
         let assigned = assign(total, &short);
         for account in 0..ACCOUNTS {
-            // Every account is a holder or a writer, so that one of the two is 0.
-            let shrinks = exercised[account] - assigned[account];
-            if shrinks == 0 {
-                continue;
+            let mut of_account = 0;
+            for section in 0..SECTIONS {
+                // Every place is a holder's or a writer's, so that one of the two is 0.
+                let shrinks = exercised[account][section] - assigned[account][section];
+                let futures = match self.option {
+                    OptionType::Call => shrinks,
+                    OptionType::Put => -shrinks,
+                };
+                self.positions[account][section] -= shrinks;
+                self.futures[account][section] += futures;
+                of_account += futures;
             }
-            let futures = match self.option {
-                OptionType::Call => shrinks,
-                OptionType::Put => -shrinks,
-            };
-            self.positions[account] -= shrinks;
-            self.futures[account] += futures;
-            arisen.push((number, account as u8, futures));
+            if of_account != 0 {
+                arisen.push((number, account as u8, of_account));
+            }
         }
     }
 
-    /// How many contracts an account exercises this evening.
-    fn exercised(&self, account: usize, day: u64) -> i64 {
-        let held = self.positions[account];
-        if held <= 0 || self.declined[account] {
+    /// How many contracts of an account's section are exercised this evening.
+    fn exercised(&self, account: usize, section: usize, day: u64) -> i64 {
+        let held = self.positions[account][section];
+        if held <= 0 || self.declined[account][section] {
             return 0;
         }
         let automatic = if day == self.last_day { self.automatic(held) } else { 0 };
-        held.min(self.requests[account].max(automatic))
+        held.min(self.requests[account][section].max(automatic))
     }
 
     /// What is exercised of `held` contracts without a request on the last day.
@@ -368,33 +399,44 @@ impl Series {
     fn close_day(&mut self) {
         self.evening_price = self.mark.take().map_or(0, |mark| mark.option);
         self.opening = self.positions;
-        self.requests = [0; ACCOUNTS];
-        self.declined = [false; ACCOUNTS];
+        self.requests = NOTHING;
+        self.declined = NOBODY;
     }
 }
 
 /// RULES, "Assignment": shares `exercised` contracts out to the writers, who are `short` so much, in proportion; what is
-/// left over goes one each to the largest remainders, equal ones to the lower account.
-pub fn assign(exercised: i64, short: &[i64; ACCOUNTS]) -> [i64; ACCOUNTS] {
-    let all: i64 = short.iter().sum();
+/// left over goes one each to the largest remainders, equal ones by account and then section.
+pub fn assign(exercised: i64, short: &Places<i64>) -> Places<i64> {
+    let all: i64 = short.as_flattened().iter().sum();
     if all == 0 {
-        return [0; ACCOUNTS];
+        return NOTHING;
     }
-    let mut assigned = short.map(|short| exercised * short / all);
-    let left = exercised - assigned.iter().sum::<i64>();
-    let mut writers: Vec<(Reverse<i64>, usize)> = (0..ACCOUNTS)
-        .filter(|&account| short[account] > 0)
-        .map(|account| (Reverse(exercised * short[account] % all), account))
+    let mut assigned = short.map(|sections| sections.map(|short| exercised * short / all));
+    let left = exercised - assigned.as_flattened().iter().sum::<i64>();
+    let places = short.as_flattened().iter().enumerate();
+    let mut writers: Vec<(Reverse<i64>, usize)> = places
+        .filter(|&(_, &short)| short > 0)
+        .map(|(place, &short)| (Reverse(exercised * short % all), place))
         .collect();
     writers.sort_unstable();
-    for &(_, account) in writers.iter().take(left as usize) {
-        assigned[account] += 1;
+    for &(_, place) in writers.iter().take(left as usize) {
+        assigned.as_flattened_mut()[place] += 1;
     }
     assigned
 }
 
-fn check_account(account: u8) -> Result<(), Refusal> {
-    refuse_if(usize::from(account) >= ACCOUNTS, Refusal::UnknownAccount)
+/// An account's section, both within their bounds.
+struct Place {
+    account: usize,
+    section: usize,
+}
+
+/// The places that an event names. All its accounts are tested before its sections.
+fn places<const N: usize>(parties: [Party; N]) -> Result<[Place; N], Refusal> {
+    let places = parties.map(|party| (usize::from(party.account), party.section));
+    refuse_if(places.iter().any(|&(account, _)| account >= ACCOUNTS), Refusal::UnknownAccount)?;
+    refuse_if(places.iter().any(|&(_, section)| section >= SECTIONS as u64), Refusal::UnknownSection)?;
+    Ok(places.map(|(account, section)| Place { account, section: section as usize }))
 }
 
 fn refuse_if(condition: bool, refusal: Refusal) -> Result<(), Refusal> {

@@ -17,9 +17,11 @@ pub mod rows;
 pub mod value;
 
 use std::io::{self, Read, Write};
+use std::ops::Range;
 
 use book::Book;
 use calendar::Calendar;
+use market::FIRST_WITH_SECTIONS;
 use refusal::Refusal;
 use rows::Rows;
 
@@ -69,11 +71,18 @@ fn refuse_calendar(refusal: Refusal, mut output: impl Write) -> io::Result<()> {
     output.flush()
 }
 
-/// The markets that the gate compares.
-pub const GATE_SEEDS: std::ops::Range<u64> = 0..1000;
+/// The markets that the gate compares: those that name no sections,
+pub const GATE_SEEDS: Range<u64> = 0..1000;
+
+/// and those that do.
+pub const GATE_SECTION_SEEDS: Range<u64> = FIRST_WITH_SECTIONS..FIRST_WITH_SECTIONS + 300;
+
+pub fn gate_seeds() -> impl Iterator<Item = u64> {
+    GATE_SEEDS.chain(GATE_SECTION_SEEDS)
+}
 
 /// The seeds of the contract codes that it compares beside them.
-pub const GATE_CODES: std::ops::Range<u64> = 0..200;
+pub const GATE_CODES: Range<u64> = 0..200;
 
 /// And of the calendars, each with a few rows.
-pub const GATE_CALENDARS: std::ops::Range<u64> = 0..250;
+pub const GATE_CALENDARS: Range<u64> = 0..250;

@@ -1,8 +1,9 @@
-//! A market of the full size: 1,000 days with 256 trades, both sessions, 8 series and 64 accounts, and no refused row.
+//! A market of the full size: 1,000 days with 256 trades, both sessions, 8 series and 64 accounts, and no refused row. Its
+//! rows name no sections, so that what an account has is in its section 0.
 
 use std::io::{self, Write};
 
-use crate::book::{Book, Category, ACCOUNTS, LAST_DAY, POSITION_LIMIT, QUANTITY, SERIES, TRADES_A_DAY};
+use crate::book::{net, Book, Category, ACCOUNTS, LAST_DAY, POSITION_LIMIT, QUANTITY, SERIES, TRADES_A_DAY};
 use crate::calendar::Calendar;
 use crate::random::Random;
 use crate::rows;
@@ -50,8 +51,8 @@ impl<W: Write> Load<W> {
             let quantity = self.random.between(*QUANTITY.start(), *QUANTITY.end());
             // Whoever holds much sells.
             let positions = &self.book.series[number].positions;
-            let room = positions[buyer] + (quantity as i64) < POSITION_LIMIT
-                && positions[seller] - (quantity as i64) > -POSITION_LIMIT;
+            let room = net(&positions[buyer]) + (quantity as i64) < POSITION_LIMIT
+                && net(&positions[seller]) - (quantity as i64) > -POSITION_LIMIT;
             let (buyer, seller) = if room { (buyer, seller) } else { (seller, buyer) };
             let price = self.price[number] / 100 * 100 + 100 * self.random.below(10);
             self.row(&format!("T,{number},{buyer},{seller},{quantity},{price}"))?;
@@ -65,7 +66,7 @@ impl<W: Write> Load<W> {
             let number = self.random.pick(&self.live());
             let account = self.random.below(ACCOUNTS as u64) as usize;
             let series = &self.book.series[number];
-            let held = series.positions[account].max(0) as u64;
+            let held = net(&series.positions[account]).max(0) as u64;
             if series.category == Category::American || series.last_day == self.book.day {
                 let quantity = self.random.between(0, held.min(100));
                 self.row(&format!("X,{number},{account},{quantity}"))?;

@@ -6,15 +6,19 @@ mod calendar;
 mod code;
 mod damage;
 mod noise;
+mod sections;
 
-use crate::book::{Book, ACCOUNTS, LAST_DAY, POSITION_LIMIT, SERIES};
+use crate::book::{Book, ACCOUNTS, LAST_DAY, SECTIONS, SERIES};
 use crate::calendar::{Calendar, File};
 use crate::random::Random;
-use crate::rows;
+use crate::rows::{self, find_crlf};
+
+use sections::{Place, Sections};
 
 pub use by_date::with_days;
+pub use sections::{has_sections, with_sections};
 
-/// The kinds of market; a seed's kind is its remainder by their number.
+/// The kinds of market.
 #[derive(Clone, Copy, Debug, PartialEq, Eq)]
 pub enum Kind {
     /// A few series and a handful of accounts for some days.
@@ -37,8 +41,21 @@ pub enum Kind {
     Codes,
     /// Random bytes.
     Noise,
+    /// A few accounts that use both of their sections.
+    Sections,
+    /// Many accounts with small positions in both sections: equal remainders, and futures that cancel out.
+    SectionTies,
+    /// Large trades in both sections: accounts reach the limit of the two together.
+    SectionLimits,
+    /// Series that live a day or two, held and written in both sections.
+    SectionExpiries,
+    /// Past the evening of day 999, with sections.
+    SectionEnding,
+    /// Every few rows one is damaged, with sections.
+    SectionDamage,
 }
 
+/// Those that name no sections. A seed's kind is its remainder by the number of kinds,
 pub const KINDS: [Kind; 10] = [
     Kind::Ordinary,
     Kind::Crowded,
@@ -52,17 +69,32 @@ pub const KINDS: [Kind; 10] = [
     Kind::Noise,
 ];
 
+/// and from `FIRST_WITH_SECTIONS` on it is one of those that do.
+pub const SECTION_KINDS: [Kind; 6] = [
+    Kind::Sections,
+    Kind::SectionTies,
+    Kind::SectionLimits,
+    Kind::SectionExpiries,
+    Kind::SectionEnding,
+    Kind::SectionDamage,
+];
+
+pub const FIRST_WITH_SECTIONS: u64 = 1_000_000;
+
 pub fn kind(seed: u64) -> Kind {
-    KINDS[(seed % KINDS.len() as u64) as usize]
+    let kinds = if seed < FIRST_WITH_SECTIONS { &KINDS[..] } else { &SECTION_KINDS };
+    kinds[(seed % kinds.len() as u64) as usize]
 }
 
-// Numbers of their own: what is drawn of calendars and dates uses up none of those that the other rows are drawn from.
+// Numbers of their own: what is drawn of calendars, dates and sections uses up none of those that the rest of the rows is
+// drawn from.
 const CALENDARS: u64 = 1 << 62;
 const DATES: u64 = 1 << 63;
+const SECTION_NUMBERS: u64 = 1 << 61;
 
 /// The market of a seed, as input bytes. It fits the seed's calendar.
 pub fn market(seed: u64) -> Vec<u8> {
-    market_with(seed, &calendar(seed).calendar().unwrap_or_default())
+    market_of(kind(seed), seed, &calendar(seed).calendar().unwrap_or_default())
 }
 
 pub fn calendar(seed: u64) -> File {
@@ -74,14 +106,14 @@ pub fn odd_calendar(seed: u64) -> File {
     calendar::odd(seed, &mut Random::new(seed ^ CALENDARS))
 }
 
-fn market_with(seed: u64, calendar: &Calendar) -> Vec<u8> {
+fn market_of(kind: Kind, seed: u64, calendar: &Calendar) -> Vec<u8> {
     let mut random = Random::new(seed);
-    let kind = kind(seed);
     if kind == Kind::Noise {
         return noise::bytes(&mut random, calendar);
     }
     let style = Style::of(kind, &mut random);
-    let mut market = Market::new(random, style, Random::new(seed ^ DATES), calendar.clone());
+    let (dates, sections) = (Random::new(seed ^ DATES), Random::new(seed ^ SECTION_NUMBERS));
+    let mut market = Market::new(random, style, dates, sections, calendar.clone());
     market.run();
     market.end()
 }
@@ -112,6 +144,7 @@ struct Style {
     wrong: u64,
     damaged: u64,
     extreme: bool,
+    sections: Sections,
 }
 
 impl Style {
@@ -129,7 +162,9 @@ impl Style {
             wrong: 50,
             damaged: 10,
             extreme: false,
+            sections: Sections::Unnamed,
         };
+        let in_both = Sections::Mixed(500);
         match kind {
             Kind::Ordinary | Kind::Noise => ordinary,
             Kind::Crowded => Style { quiet_days: 0, busy_days: 3, events: 340, wrong: 20, damaged: 2, ..ordinary },
@@ -150,6 +185,50 @@ impl Style {
             Kind::Extreme => Style { extreme: true, wrong: 100, ..ordinary },
             Kind::Damaged => Style { damaged: 250, ..ordinary },
             Kind::Codes => Style { listings: 600, live: 2, life: 4, ..ordinary },
+            Kind::Sections => Style { accounts: random.between(2, 8), sections: in_both, ..ordinary },
+            Kind::SectionTies => Style {
+                live: 4,
+                life: 8,
+                busy_days: 10,
+                accounts: random.pick(&[4, 8, 25]),
+                quantity: random.pick(&[1, 2]),
+                events: 60,
+                sections: in_both,
+                ..ordinary
+            },
+            Kind::SectionLimits => Style::of_section_limits(ordinary, random),
+            Kind::SectionExpiries => Style {
+                busy_days: 10,
+                live: 3,
+                life: 2,
+                events: 16,
+                accounts: random.between(6, 12),
+                quantity: 5,
+                one_sided: true,
+                sections: in_both,
+                ..ordinary
+            },
+            Kind::SectionEnding => {
+                Style { quiet_days: random.between(990, 998), busy_days: 12, sections: in_both, ..ordinary }
+            }
+            Kind::SectionDamage => Style { damaged: 250, sections: in_both, ..ordinary },
+        }
+    }
+
+    /// Both sections are of one sign, or of two, or nearly all is in one of them.
+    fn of_section_limits(ordinary: Style, random: &mut Random) -> Self {
+        let sections = random.pick(&[Sections::Mixed(500), Sections::Apart, Sections::Apart, Sections::Mixed(0)]);
+        Style {
+            busy_days: 3,
+            events: 300,
+            live: 1,
+            life: 6,
+            accounts: random.between(2, 3),
+            quantity: 1000,
+            one_sided: sections != Sections::Apart,
+            wrong: 20,
+            sections,
+            ..ordinary
         }
     }
 }
@@ -206,6 +285,7 @@ struct Market {
     random: Random,
     style: Style,
     dates: Random,
+    sections: Random,
     calendar: Calendar,
     book: Book,
     accounts: Vec<u64>,
@@ -216,7 +296,7 @@ struct Market {
 }
 
 impl Market {
-    fn new(mut random: Random, style: Style, dates: Random, calendar: Calendar) -> Self {
+    fn new(mut random: Random, style: Style, dates: Random, sections: Random, calendar: Calendar) -> Self {
         // The first and the last account take part more often than others.
         let mut accounts = Vec::new();
         for account in [0, ACCOUNTS as u64 - 1] {
@@ -234,6 +314,7 @@ impl Market {
             random,
             style,
             dates,
+            sections,
             calendar,
             book: Book::new(),
             accounts,
@@ -294,6 +375,8 @@ impl Market {
         // With nothing to trade in, a few events will do.
         let most = if self.live().is_empty() { 8 } else { self.style.events };
         for _ in 0..self.random.between(most / 2, most) {
+            self.perhaps_odd_sections();
+            self.perhaps_uncover_a_writer();
             if self.random.permille(self.style.listings) {
                 self.list();
                 continue;
@@ -345,38 +428,41 @@ impl Market {
     fn trade(&mut self) {
         let number = self.some_series();
         let (buyer, seller) = self.some_sides();
+        let [buyer_section, seller_section] = self.sections_of_trade(buyer, seller);
         let mut quantity = self.random.between(1, self.style.quantity);
-        if self.style.one_sided && !self.random.one_in(4) {
+        let is_large = self.style.one_sided || self.style.sections == Sections::Apart;
+        if is_large && !self.random.one_in(4) {
             quantity = self.style.quantity;
         }
         let mut tick = 1;
         if let Some(series) = self.book.series.get(number as usize) {
             tick = series.tick;
-            let room = (POSITION_LIMIT - series.positions[buyer as usize])
-                .min(POSITION_LIMIT + series.positions[seller as usize]);
+            let room = self
+                .room_to_buy(number, (buyer, buyer_section))
+                .min(self.room_to_sell(number, (seller, seller_section)));
             // Sometimes just up to the limit, sometimes one past it.
             if room < 1000 && self.random.one_in(2) {
                 quantity = (room as u64 + self.random.below(2)).max(1);
             }
         }
         let price = self.some_price(number) / tick * tick;
-        self.row("T", &[number, buyer, seller, quantity, price]);
+        self.row_in_sections("T", &[number, buyer, seller, quantity, price], &[buyer_section, seller_section]);
+        self.perhaps_try_the_limit(number, buyer);
+        self.perhaps_try_the_limit(number, seller);
     }
 
     fn exercise(&mut self) {
         let number = self.some_series();
-        let account = self.some_holder(number);
-        let held = match self.book.series.get(number as usize) {
-            Some(series) => series.positions[account as usize].max(0) as u64,
-            None => 0,
-        };
+        let (account, section) = self.some_holder(number);
+        let held = self.position(number, (account, section)).max(0) as u64;
         let quantity = match self.random.below(8) {
             0 => 0,
             1 => held,
             2 => held + 1,
             _ => self.random.between(0, held),
         };
-        self.row("X", &[number, account, quantity]);
+        let section = self.perhaps_the_other(section);
+        self.row_in_sections("X", &[number, account, quantity], &[section]);
     }
 
     fn decline(&mut self) {
@@ -384,8 +470,8 @@ impl Market {
         let on_last_day: Vec<u64> =
             self.live().into_iter().filter(|&number| self.book.series[number as usize].last_day == day).collect();
         let number = if on_last_day.is_empty() { self.some_series() } else { self.random.pick(&on_last_day) };
-        let account = self.some_holder(number);
-        self.row("D", &[number, account]);
+        let (account, section) = self.some_holder(number);
+        self.row_in_sections("D", &[number, account], &[section]);
     }
 
     fn mark(&mut self, number: u64) {
@@ -483,14 +569,14 @@ impl Market {
         (self.accounts[buyer as usize], self.accounts[seller as usize])
     }
 
-    /// Mostly an account that holds the series.
-    fn some_holder(&mut self, number: u64) -> u64 {
-        let account = self.random.pick(&self.accounts);
-        let Some(series) = self.book.series.get(number as usize) else { return account };
-        let holders: Vec<u64> =
-            (0..ACCOUNTS as u64).filter(|&account| series.positions[account as usize] > 0).collect();
+    /// Mostly a place that holds the series.
+    fn some_holder(&mut self, number: u64) -> Place {
+        let place = (self.random.pick(&self.accounts), self.some_section());
+        let places =
+            (0..ACCOUNTS as u64).flat_map(|account| (0..SECTIONS as u64).map(move |section| (account, section)));
+        let holders: Vec<Place> = places.filter(|&place| self.position(number, place) > 0).collect();
         if holders.is_empty() || self.random.one_in(8) {
-            account
+            place
         } else {
             self.random.pick(&holders)
         }
@@ -545,10 +631,14 @@ impl Market {
         self.push(&row);
     }
 
-    /// Adds a row as it is; the book follows.
+    /// Adds a row as it is; the book follows. In a market that names no sections it passes over a row that damage has given
+    /// some, so that the rows behind it are what they would be if there were no sections.
     fn push(&mut self, row: &[u8]) {
         self.bytes.extend_from_slice(row);
         self.bytes.extend_from_slice(b"\r\n");
+        if self.style.sections == Sections::Unnamed && has_sections(row) {
+            return;
+        }
         if let Ok(event) = rows::read(row, &self.calendar) {
             let _ = self.book.apply(event);
         }
@@ -561,4 +651,18 @@ fn text(letter: &str, fields: &[u64]) -> String {
         row.push_str(&format!(",{field}"));
     }
     row
+}
+
+/// The same rows, each with an end of its own behind it.
+fn with_ends(input: &[u8], end: impl Fn(&[u8]) -> String) -> Vec<u8> {
+    let mut output = Vec::with_capacity(input.len());
+    let mut rest = input;
+    loop {
+        let (row, others) = rest.split_at(find_crlf(rest).unwrap_or(rest.len()));
+        output.extend_from_slice(row);
+        output.extend_from_slice(end(row).as_bytes());
+        let Some(others) = others.strip_prefix(b"\r\n") else { return output };
+        output.extend_from_slice(b"\r\n");
+        rest = others;
+    }
 }

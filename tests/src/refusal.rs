@@ -25,6 +25,7 @@ pub enum Refusal {
     Row,
     Calendar,
     NoTradingDate,
+    UnknownSection,
 }
 
 impl Refusal {
@@ -53,6 +54,7 @@ impl Refusal {
             Refusal::Row => 20,
             Refusal::Calendar => 21,
             Refusal::NoTradingDate => 22,
+            Refusal::UnknownSection => 23,
         }
     }
 }

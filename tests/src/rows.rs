@@ -2,7 +2,7 @@
 
 use std::io::{self, ErrorKind, Read};
 
-use crate::book::Event;
+use crate::book::{Event, Party};
 use crate::calendar::Calendar;
 use crate::codes;
 use crate::refusal::Refusal;
@@ -121,24 +121,26 @@ fn list_fields(rest: &[u8]) -> Option<(&[u8], u64, Option<u64>)> {
 }
 
 fn trade(rest: &[u8]) -> Option<Event> {
-    let [series, buyer, seller, quantity, price] = fields(rest)?;
+    let ([series, buyer, seller, quantity, price], [buyer_section, seller_section]) = fields_and_sections(rest)?;
     Some(Event::Trade {
         series: byte(series)?,
-        buyer: byte(buyer)?,
-        seller: byte(seller)?,
+        buyer: Party { account: byte(buyer)?, section: buyer_section },
+        seller: Party { account: byte(seller)?, section: seller_section },
         quantity: number(quantity)?,
         price: number(price)?,
     })
 }
 
 fn exercise(rest: &[u8]) -> Option<Event> {
-    let [series, account, quantity] = fields(rest)?;
-    Some(Event::Exercise { series: byte(series)?, account: byte(account)?, quantity: number(quantity)? })
+    let ([series, account, quantity], [section]) = fields_and_sections(rest)?;
+    let holder = Party { account: byte(account)?, section };
+    Some(Event::Exercise { series: byte(series)?, holder, quantity: number(quantity)? })
 }
 
 fn decline(rest: &[u8]) -> Option<Event> {
-    let [series, account] = fields(rest)?;
-    Some(Event::Decline { series: byte(series)?, account: byte(account)? })
+    let ([series, account], [section]) = fields_and_sections(rest)?;
+    let holder = Party { account: byte(account)?, section };
+    Some(Event::Decline { series: byte(series)?, holder })
 }
 
 fn mark(rest: &[u8]) -> Option<Event> {
@@ -153,12 +155,23 @@ fn mark(rest: &[u8]) -> Option<Event> {
 
 /// Exactly N fields between commas.
 fn fields<const N: usize>(row: &[u8]) -> Option<[&[u8]; N]> {
-    let mut parts = row.split(|&byte| byte == b',');
+    fields_and_sections(row).map(|(fields, [])| fields)
+}
+
+/// N fields between commas, and behind them S sections or none: then the sections are 0.
+fn fields_and_sections<const N: usize, const S: usize>(row: &[u8]) -> Option<([&[u8]; N], [u64; S])> {
+    let mut parts = row.split(|&byte| byte == b',').peekable();
     let mut fields = [&row[..0]; N];
     for field in &mut fields {
         *field = parts.next()?;
     }
-    parts.next().is_none().then_some(fields)
+    let mut sections = [0; S];
+    if parts.peek().is_some() {
+        for section in &mut sections {
+            *section = number(parts.next()?)?;
+        }
+    }
+    parts.next().is_none().then_some((fields, sections))
 }
 
 /// A decimal number of 1 to 18 digits without leading zeros.
@@ -195,6 +208,10 @@ mod tests {
         read(row).expect_err(&String::from_utf8_lossy(row)).number()
     }
 
+    fn party(account: u8, section: u64) -> Party {
+        Party { account, section }
+    }
+
     #[test]
     fn the_seven_kinds() {
         assert_eq!(
@@ -209,10 +226,10 @@ mod tests {
         );
         assert_eq!(
             read(b"T,0,1,2,10,15000"),
-            Ok(Event::Trade { series: 0, buyer: 1, seller: 2, quantity: 10, price: 15_000 })
+            Ok(Event::Trade { series: 0, buyer: party(1, 0), seller: party(2, 0), quantity: 10, price: 15_000 })
         );
-        assert_eq!(read(b"X,7,63,0"), Ok(Event::Exercise { series: 7, account: 63, quantity: 0 }));
-        assert_eq!(read(b"D,3,4"), Ok(Event::Decline { series: 3, account: 4 }));
+        assert_eq!(read(b"X,7,63,0"), Ok(Event::Exercise { series: 7, holder: party(63, 0), quantity: 0 }));
+        assert_eq!(read(b"D,3,4"), Ok(Event::Decline { series: 3, holder: party(4, 0) }));
         assert_eq!(
             read(b"M,0,16000,1702000,100000"),
             Ok(Event::Mark { series: 0, option: 16_000, futures: 1_702_000, tick_value: 100_000 })
@@ -248,6 +265,20 @@ mod tests {
             "T,0,1,2,10",
             "T,0,1,2,10,15000,",
             "T,0,1,2,10,15000,0",
+            "T,0,1,2,10,15000,1",
+            "T,0,1,2,10,15000,,",
+            "T,0,1,2,10,15000,0,",
+            "T,0,1,2,10,15000,,0",
+            "T,0,1,2,10,15000,0,1,",
+            "T,0,1,2,10,15000,0,1,0",
+            "T,0,1,2,10,15000,00,1",
+            "T,0,1,2,10,15000,0,01",
+            "T,0,1,2,10,15000,-1,0",
+            "T,0,1,2,10,15000,0, 1",
+            "T,0,1,2,10,15000,1000000000000000000,0",
+            "T,0,1,2,10,15000,0,1000000000000000000",
+            "T,0,1,2,10,,0,1",
+            "T,0,1,2,10,0,1",
             "T,0,1,2,,15000",
             "T,,1,2,10,15000",
             "t,0,1,2,10,15000",
@@ -265,9 +296,17 @@ mod tests {
             "TT,0,1,2,10,1",
             "T,0,1,2,10,1000000000000000000",
             "X,0,1",
-            "X,0,1,2,3",
+            "X,0,1,2,",
+            "X,0,1,2,01",
+            "X,0,1,2,1000000000000000000",
+            "X,0,1,2,0,0",
+            "X,0,1,,0",
             "D,0",
-            "D,0,1,2",
+            "D,0,1,",
+            "D,0,1,01",
+            "D,0,1,1000000000000000000",
+            "D,0,1,0,0",
+            "D,0,,0",
             "M,0,1,2",
             "M,0,1,2,3,4",
             "L,GAZR-3.23M150323CA17000",
@@ -383,7 +422,7 @@ mod tests {
         let exercise = |digits: &str| read(format!("X,0,0,{digits}").as_bytes());
         assert_eq!(
             exercise("999999999999999999"),
-            Ok(Event::Exercise { series: 0, account: 0, quantity: 999_999_999_999_999_999 })
+            Ok(Event::Exercise { series: 0, holder: party(0, 0), quantity: 999_999_999_999_999_999 })
         );
         assert_eq!(exercise("1000000000000000000"), Err(Refusal::Row));
         assert_eq!(exercise("0000000000000000001"), Err(Refusal::Row));
@@ -391,9 +430,43 @@ mod tests {
 
     #[test]
     fn a_number_too_large_becomes_the_largest_of_its_place() {
-        assert_eq!(read(b"D,300,256"), Ok(Event::Decline { series: 255, account: 255 }));
-        assert_eq!(read(b"D,999999999999999999,255"), Ok(Event::Decline { series: 255, account: 255 }));
+        let held = Ok(Event::Decline { series: 255, holder: party(255, 0) });
+        assert_eq!(read(b"D,300,256"), held);
+        assert_eq!(read(b"D,999999999999999999,255"), held);
         assert_eq!(refusal(b"D,0,1000000000000000000"), 20);
+    }
+
+    #[test]
+    fn a_section_is_held_whole() {
+        for section in [0, 1, 2, 10, 255, 256, 4_294_967_296, 999_999_999_999_999_999] {
+            let holder = party(2, section);
+            assert_eq!(
+                read(format!("T,0,1,2,10,15000,1,{section}").as_bytes()),
+                Ok(Event::Trade { series: 0, buyer: party(1, 1), seller: holder, quantity: 10, price: 15_000 })
+            );
+            assert_eq!(
+                read(format!("T,0,2,3,10,15000,{section},0").as_bytes()),
+                Ok(Event::Trade { series: 0, buyer: holder, seller: party(3, 0), quantity: 10, price: 15_000 })
+            );
+            assert_eq!(
+                read(format!("X,7,2,5,{section}").as_bytes()),
+                Ok(Event::Exercise { series: 7, holder, quantity: 5 })
+            );
+            assert_eq!(read(format!("D,7,2,{section}").as_bytes()), Ok(Event::Decline { series: 7, holder }));
+        }
+    }
+
+    #[test]
+    fn a_row_without_sections_means_section_0() {
+        for (without, with) in [
+            ("T,0,1,2,10,15000", "T,0,1,2,10,15000,0,0"),
+            ("T,0,1,1,0,999999999999999999", "T,0,1,1,0,999999999999999999,0,0"),
+            ("X,0,1,2", "X,0,1,2,0"),
+            ("D,0,1", "D,0,1,0"),
+        ] {
+            assert!(read(without.as_bytes()).is_ok());
+            assert_eq!(read(without.as_bytes()), read(with.as_bytes()), "{without}");
+        }
     }
 
     #[test]

@@ -3,18 +3,24 @@
 
 #[path = "coverage/calendars.rs"]
 mod calendars;
+#[path = "coverage/sections.rs"]
+mod sections;
 
+use std::array;
 use std::collections::BTreeMap;
 
-use second::book::{Book, Category, Done, Event, OptionType, LAST_DAY, POSITION_LIMIT};
+use second::book::{
+    Book, Category, Done, Event, OptionType, Party, Places, Series, LAST_DAY, NOTHING, POSITION_LIMIT, SECTIONS,
+};
 use second::calendar::{Calendar, File};
 use second::codes::{self, Style, Terms};
 use second::market::{calendar, market, odd_calendar};
 use second::refusal::Refusal;
 use second::rows::{self, Rows};
-use second::{GATE_CALENDARS, GATE_CODES, GATE_SEEDS};
+use second::{gate_seeds, GATE_CALENDARS, GATE_CODES};
 
 use calendars::{wanted_of_broken_calendars, wanted_of_listings_by_date};
+use sections::wanted_of_sections;
 
 /// How often each thing has happened.
 #[derive(Default)]
@@ -81,6 +87,7 @@ impl Census {
             }
             let answer = event.and_then(|event| book.apply(event));
             self.take_answer(&book, event.ok(), &answer);
+            self.take_sections(&book, row, event.ok(), &answer);
             self.take_listing(file, calendar, &book, row, &answer);
             if let Some(code) = code_of(row) {
                 self.take_code(code);
@@ -169,7 +176,8 @@ impl Census {
     fn take_event(&mut self, book: &Book, event: &Event) {
         match *event {
             Event::Trade { series: 255, .. } => self.count("series held at 255"),
-            Event::Trade { buyer: 255, .. } | Event::Trade { seller: 255, .. } => self.count("account held at 255"),
+            Event::Trade { buyer: Party { account: 255, .. }, .. }
+            | Event::Trade { seller: Party { account: 255, .. }, .. } => self.count("account held at 255"),
             Event::List { .. } => self.count_if(book.intraday_is_over, "listing after an intraday session"),
             Event::Evening => self.take_evening(book),
             _ => {}
@@ -180,54 +188,61 @@ impl Census {
     fn take_evening(&mut self, book: &Book) {
         let live = || book.series.iter().filter(|series| book.day <= series.last_day);
         self.count_if(live().count() == 0, "evening without live series");
-        if live().any(|series| series.mark.is_none()) {
-            return;
-        }
-        for series in live() {
-            let held = series.positions.iter().any(|&position| position > 0);
-            let mark = series.mark.unwrap();
-            if series.last_day == book.day && held {
-                let option = if series.option == OptionType::Call { "call" } else { "put" };
-                self.count(format!("{option} expires, strike {:?} futures", series.strike.cmp(&mark.futures)));
-            }
-            for (account, &position) in series.positions.iter().enumerate() {
-                self.count_if(position > 0 && series.declined[account], "holder declines");
-                let asks = position > 0 && series.requests[account] > 0;
-                self.count_if(asks && series.requests[account] > position, "request above the position that is left");
-                let when = if series.last_day == book.day { "on" } else { "before" };
-                if asks {
-                    self.count(format!("{:?} request {when} the last day", series.category));
-                }
-            }
-            self.take_remainders(book, series);
-        }
-        self.count_if(live().count() > 1 && book.blotter.len() > 1, "evening of several series with trades");
-    }
-
-    /// Whether the contracts left over have to pass over an account by its number alone.
-    fn take_remainders(&mut self, book: &Book, series: &second::book::Series) {
         let mut after = book.clone();
         if after.apply(Event::Evening).is_err() {
             return;
         }
-        let number = book.series.iter().position(|other| std::ptr::eq(other, series)).unwrap();
-        let sign = if series.option == OptionType::Call { 1 } else { -1 };
-        let arisen = |account: usize| sign * (after.series[number].futures[account] - series.futures[account]);
-        let short: Vec<(usize, i64)> = (0..64)
-            .filter(|&account| series.positions[account] < 0)
-            .map(|account| (account, -series.positions[account]))
-            .collect();
-        let all: i64 = short.iter().map(|writer| writer.1).sum();
-        let exercised: i64 = (0..64).map(arisen).filter(|&futures| futures > 0).sum();
-        if all == 0 || exercised == 0 {
-            return;
+        for (series, after) in book.series.iter().zip(&after.series) {
+            let is_last_day = series.last_day == book.day;
+            if book.day > series.last_day {
+                continue;
+            }
+            let held = series.positions.iter().flatten().any(|&position| position > 0);
+            let mark = series.mark.expect("the evening is carried out");
+            if is_last_day && held {
+                let option = if series.option == OptionType::Call { "call" } else { "put" };
+                self.count(format!("{option} expires, strike {:?} futures", series.strike.cmp(&mark.futures)));
+            }
+            self.take_requests(series, is_last_day);
+            let given_up = given_up(series, after);
+            if given_up != NOTHING {
+                self.take_remainders(series, &given_up);
+                self.take_places(series, is_last_day, &given_up);
+            }
         }
-        let remainder = |writer: &(usize, i64)| exercised * writer.1 % all;
-        let one_more = |writer: &(usize, i64)| -arisen(writer.0) > exercised * writer.1 / all;
-        self.count_if(short.iter().any(one_more), "contracts left over in assignment");
-        let tie =
-            short.iter().any(|a| short.iter().any(|b| remainder(a) == remainder(b) && one_more(a) && !one_more(b)));
-        self.count_if(tie, "equal remainders decided by account");
+        self.count_if(live().count() > 1 && book.blotter.len() > 1, "evening of several series with trades");
+    }
+
+    fn take_requests(&mut self, series: &Series, is_last_day: bool) {
+        let requests = series.requests.iter().flatten().zip(series.declined.iter().flatten());
+        for (&position, (&request, &declined)) in series.positions.iter().flatten().zip(requests) {
+            self.count_if(position > 0 && declined, "holder declines");
+            let asks = position > 0 && request > 0;
+            self.count_if(asks && request > position, "request above the position that is left");
+            let when = if is_last_day { "on" } else { "before" };
+            if asks {
+                self.count(format!("{:?} request {when} the last day", series.category));
+            }
+        }
+    }
+
+    /// Whether the contracts left over have to pass over a place by its number alone.
+    fn take_remainders(&mut self, series: &Series, given_up: &Places<i64>) {
+        let writers = writers(series, given_up);
+        let all: i64 = writers.iter().map(|writer| writer.short).sum();
+        let exercised: i64 = writers.iter().map(|writer| writer.assigned).sum();
+        let remainder = |writer: &Writer| exercised * writer.short % all;
+        let one_more = |writer: &Writer| writer.assigned > exercised * writer.short / all;
+        let (more, no_more): (Vec<&Writer>, Vec<&Writer>) = writers.iter().partition(|&writer| one_more(writer));
+        self.count_if(!more.is_empty(), "contracts left over in assignment");
+        let ties =
+            || more.iter().flat_map(|a| no_more.iter().filter(|b| remainder(a) == remainder(b)).map(move |b| (a, b)));
+        let by_account = ties().any(|(a, b)| a.account < b.account);
+        self.count_if(by_account, "equal remainders decided by account");
+        let by_section = ties().any(|(a, b)| a.account == b.account && a.section < b.section);
+        self.count_if(by_section, "equal remainders decided by section");
+        let against_sections = ties().any(|(a, b)| a.account < b.account && a.section > b.section);
+        self.count_if(against_sections, "equal remainders: section 1 before section 0 of a later account");
         self.count_if(exercised == all, "all writers assigned in full");
     }
 
@@ -256,12 +271,40 @@ impl Census {
             self.count_if(book.series[usize::from(series)].category == Category::European, "European exercise entered");
         }
         if let (Some(Event::Trade { series, .. }), Ok(_)) = (event, answer) {
-            let positions = &book.series[usize::from(series)].positions;
+            let positions = book.series[usize::from(series)].positions.as_flattened();
             self.count_if(positions.contains(&POSITION_LIMIT), "position at the limit");
             self.count_if(positions.contains(&-POSITION_LIMIT), "short position at the limit");
             self.count_if(book.blotter.len() == 256, "full blotter");
         }
     }
+}
+
+/// How many contracts each place exercised in an evening, or was assigned with a minus.
+fn given_up(before: &Series, after: &Series) -> Places<i64> {
+    let sign = if before.option == OptionType::Call { 1 } else { -1 };
+    array::from_fn(|account| {
+        array::from_fn(|section| sign * (after.futures[account][section] - before.futures[account][section]))
+    })
+}
+
+struct Writer {
+    account: usize,
+    section: usize,
+    short: i64,
+    assigned: i64,
+}
+
+fn writers(series: &Series, given_up: &Places<i64>) -> Vec<Writer> {
+    let positions = series.positions.as_flattened().iter().zip(given_up.as_flattened()).enumerate();
+    positions
+        .filter(|(_, (&position, _))| position < 0)
+        .map(|(place, (&position, &given_up))| Writer {
+            account: place / SECTIONS,
+            section: place % SECTIONS,
+            short: -position,
+            assigned: -given_up,
+        })
+        .collect()
 }
 
 /// White bytes that are no blank, and the no-break space of UTF-8.
@@ -372,10 +415,10 @@ fn wanted_of_codes() -> Vec<String> {
 #[test]
 fn every_refusal_and_every_kind_of_line() {
     let mut census = Census::default();
-    for seed in GATE_SEEDS {
+    for seed in gate_seeds() {
         census.take(&calendar(seed), &market(seed));
     }
-    let mut wanted: Vec<String> = (1..=22).map(|number| format!("refusal {number}")).collect();
+    let mut wanted: Vec<String> = (1..=23).map(|number| format!("refusal {number}")).collect();
     wanted.extend(
         [
             "A without series",
@@ -435,6 +478,7 @@ fn every_refusal_and_every_kind_of_line() {
     );
     wanted.extend(wanted_of_codes());
     wanted.extend(wanted_of_listings_by_date());
+    wanted.extend(wanted_of_sections());
     println!("{} rows, {} carried out", census.rows, census.carried_out);
     census.print();
     census.demand(5, &wanted);

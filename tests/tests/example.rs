@@ -1,11 +1,12 @@
 //! The worked example of crates/replay/stdin, and the ends that an input can have; its call listed by date, and a calendar
-//! that is refused.
+//! that is refused; sections that are left out, and those of two worked examples.
 
 use std::io::{self, Read};
 
 use second::calendar::File;
-use second::market::{calendar, market, with_days};
-use second::{replay, GATE_SEEDS};
+use second::market::{calendar, has_sections, market, with_days, with_sections};
+use second::rows::Rows;
+use second::{gate_seeds, replay, GATE_SEEDS};
 
 const INPUT: &str = "\
 L,GAZR-3.23M150323CA17000,100,1
@@ -153,7 +154,7 @@ fn a_calendar_changes_no_row_that_gives_its_day() {
 #[test]
 fn a_market_listed_by_dates_is_the_market_of_their_days() {
     let mut rewritten = 0;
-    for seed in GATE_SEEDS {
+    for seed in gate_seeds() {
         let (file, input) = (calendar(seed), market(seed));
         let Ok(calendar) = file.calendar() else { continue };
         let with_days = with_days(&input, &calendar);
@@ -161,4 +162,52 @@ fn a_market_listed_by_dates_is_the_market_of_their_days() {
         assert_eq!(answers_with(&file, &input), answers_with(&File::Missing, &with_days), "market {seed}");
     }
     assert!(rewritten > 400, "only {rewritten} markets list by date");
+}
+
+#[test]
+fn sections_that_are_left_out_are_0() {
+    let input = INPUT.replace("T,0,1,2,10,15000", "T,0,1,2,10,15000,0,0");
+    assert_ne!(input, INPUT);
+    assert_eq!(answers(&crlf(&input)), crlf(OUTPUT));
+}
+
+#[test]
+fn a_market_without_sections_is_the_market_in_section_0_and_in_section_1() {
+    let mut rewritten = [0, 0];
+    for seed in GATE_SEEDS {
+        let (file, input) = (calendar(seed), market(seed));
+        let answers = answers_with(&file, &input);
+        // Damage may have given a row sections 0: then the others may not be in section 1.
+        let sections = if names_sections(&input) { 0..1 } else { 0..2 };
+        for section in sections {
+            let with_sections = with_sections(&input, section);
+            rewritten[section as usize] += u64::from(with_sections != input);
+            assert_eq!(answers, answers_with(&file, &with_sections), "market {seed}");
+        }
+    }
+    assert!(rewritten.iter().all(|&markets| markets > 800), "few markets leave sections out: {rewritten:?}");
+}
+
+fn names_sections(input: &[u8]) -> bool {
+    let mut rows = Rows::new(input);
+    while let Some(row) = rows.next_row().unwrap() {
+        if has_sections(row) {
+            return true;
+        }
+    }
+    false
+}
+
+/// The lines of a market's last row.
+fn last_lines(rows: &str) -> String {
+    let lines = answers(&crlf(rows));
+    let row = format!("{},", rows.lines().count());
+    lines.split_inclusive("\r\n").filter(|line| line.starts_with(&row)).collect()
+}
+
+#[test]
+fn two_sections_of_5_calls_at_the_money_and_one_of_10() {
+    let day = |trades: &str| last_lines(&format!("L,GAZR-3.23M150323CA17000,100,0\n{trades}M,0,0,1700000,100000\nV\n"));
+    assert_eq!(day("T,0,1,2,5,0,0,0\nT,0,1,2,5,0,1,0\n"), "5,A,,,0\r\n5,F,0,1,6\r\n5,F,0,2,-6\r\n");
+    assert_eq!(day("T,0,1,2,10,0\n"), "4,A,,,0\r\n4,F,0,1,5\r\n4,F,0,2,-5\r\n");
 }

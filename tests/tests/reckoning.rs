@@ -2,13 +2,13 @@
 //! book's positions, futures and cash. So the second implementation is held to the rules twice, once by its steps and once by
 //! what they must come to.
 
-use second::book::{assign, Book, Event, OptionType, ACCOUNTS};
+use second::book::{assign, Book, Event, OptionType, Party, Places, ACCOUNTS, NOBODY, NOTHING};
 use second::market::{calendar, market};
 use second::rows::{self, Rows};
 use second::value::{coefficient, value};
-use second::GATE_SEEDS;
+use second::{gate_seeds, GATE_SEEDS};
 
-type Amounts = [i64; ACCOUNTS];
+type Amounts = Places<i64>;
 
 struct Series {
     option: OptionType,
@@ -21,7 +21,7 @@ struct Series {
     evening_position: Amounts,
     position: Amounts,
     request: Amounts,
-    declined: [bool; ACCOUNTS],
+    declined: Places<bool>,
     /// The day's trades as account, signed quantity and price.
     trades: Vec<(usize, i64, u64)>,
     futures: Amounts,
@@ -30,7 +30,7 @@ struct Series {
 struct Reckoning {
     day: u64,
     series: Vec<Series>,
-    cash: Amounts,
+    cash: [i64; ACCOUNTS],
 }
 
 impl Reckoning {
@@ -47,28 +47,25 @@ impl Reckoning {
                 last_day,
                 mark: None,
                 evening_price: 0,
-                evening_position: [0; ACCOUNTS],
-                position: [0; ACCOUNTS],
-                request: [0; ACCOUNTS],
-                declined: [false; ACCOUNTS],
+                evening_position: NOTHING,
+                position: NOTHING,
+                request: NOTHING,
+                declined: NOBODY,
                 trades: Vec::new(),
-                futures: [0; ACCOUNTS],
+                futures: NOTHING,
             }),
             Event::Trade { series, buyer, seller, quantity, price } => {
                 let series = &mut self.series[usize::from(series)];
-                for (account, signed) in [(buyer, quantity as i64), (seller, -(quantity as i64))] {
-                    series.position[usize::from(account)] += signed;
-                    series.trades.push((usize::from(account), signed, price));
+                for (party, signed) in [(buyer, quantity as i64), (seller, -(quantity as i64))] {
+                    let (account, section) = place(party);
+                    series.position[account][section] += signed;
+                    series.trades.push((account, signed, price));
                 }
             }
-            Event::Exercise { series, account, quantity } => {
-                self.series[usize::from(series)].request[usize::from(account)] = quantity as i64;
-                self.series[usize::from(series)].declined[usize::from(account)] = false;
+            Event::Exercise { series, holder, quantity } => {
+                self.series[usize::from(series)].asks(place(holder), quantity as i64, false);
             }
-            Event::Decline { series, account } => {
-                self.series[usize::from(series)].request[usize::from(account)] = 0;
-                self.series[usize::from(series)].declined[usize::from(account)] = true;
-            }
+            Event::Decline { series, holder } => self.series[usize::from(series)].asks(place(holder), 0, true),
             Event::Mark { series, option, futures, tick_value } => {
                 self.series[usize::from(series)].mark = Some((option, futures, tick_value));
             }
@@ -83,38 +80,53 @@ impl Reckoning {
             let (option, futures, tick_value) = series.mark.expect("the evening was carried out");
             let c = coefficient(tick_value, series.tick);
             let exercised = series.exercised(is_last_day, futures);
-            let assigned = assign(exercised.iter().sum(), &series.position.map(|position| (-position).max(0)));
+            let short = each_place(|account, section| (-series.position[account][section]).max(0));
+            let assigned = assign(exercised.as_flattened().iter().sum(), &short);
+            let given_up = each_place(|account, section| exercised[account][section] - assigned[account][section]);
+            let remains = match is_last_day {
+                true => NOTHING,
+                false => each_place(|account, section| series.position[account][section] - given_up[account][section]),
+            };
             for account in 0..ACCOUNTS {
-                let remains = series.position[account] - exercised[account] + assigned[account];
-                let remains = if is_last_day { 0 } else { remains };
-                let traded: i64 = series
-                    .trades
-                    .iter()
-                    .filter(|trade| trade.0 == account)
-                    .map(|&(_, signed, price)| signed * value(price, c))
-                    .sum();
-                self.cash[account] += remains * value(option, c)
-                    - series.evening_position[account] * value(series.evening_price, c)
+                let own = series.trades.iter().filter(|trade| trade.0 == account);
+                let traded: i64 = own.map(|&(_, signed, price)| signed * value(price, c)).sum();
+                let both = |amounts: &Amounts| amounts[account][0] + amounts[account][1];
+                self.cash[account] += both(&remains) * value(option, c)
+                    - both(&series.evening_position) * value(series.evening_price, c)
                     - traded;
-                let sign = if series.option == OptionType::Call { 1 } else { -1 };
-                series.futures[account] += sign * (exercised[account] - assigned[account]);
-                series.evening_position[account] = remains;
             }
+            let sign = if series.option == OptionType::Call { 1 } else { -1 };
+            series.futures =
+                each_place(|account, section| series.futures[account][section] + sign * given_up[account][section]);
+            series.evening_position = remains;
             series.position = series.evening_position;
             series.evening_price = option;
             series.mark = None;
             series.trades.clear();
-            series.request = [0; ACCOUNTS];
-            series.declined = [false; ACCOUNTS];
+            series.request = NOTHING;
+            series.declined = NOBODY;
         }
         self.day += 1;
     }
 }
 
+fn place(party: Party) -> (usize, usize) {
+    (usize::from(party.account), party.section as usize)
+}
+
+fn each_place(amount: impl Fn(usize, usize) -> i64) -> Amounts {
+    std::array::from_fn(|account| [amount(account, 0), amount(account, 1)])
+}
+
 impl Series {
+    fn asks(&mut self, (account, section): (usize, usize), request: i64, declined: bool) {
+        self.request[account][section] = request;
+        self.declined[account][section] = declined;
+    }
+
     fn exercised(&self, is_last_day: bool, futures: u64) -> Amounts {
-        std::array::from_fn(|account| {
-            let held = self.position[account].max(0);
+        each_place(|account, section| {
+            let held = self.position[account][section].max(0);
             let half = match self.option {
                 OptionType::Call => held - held / 2,
                 OptionType::Put => held / 2,
@@ -128,9 +140,9 @@ impl Series {
                 true if futures == self.strike => half,
                 _ => 0,
             };
-            match self.declined[account] {
+            match self.declined[account][section] {
                 true => 0,
-                false => self.request[account].max(automatic).min(held),
+                false => self.request[account][section].max(automatic).min(held),
             }
         })
     }
@@ -151,7 +163,7 @@ fn events(seed: u64) -> Vec<Event> {
 #[test]
 fn the_reckoning_finds_positions_futures_and_cash() {
     let mut evenings = 0;
-    for seed in GATE_SEEDS {
+    for seed in gate_seeds() {
         let mut book = Book::new();
         let mut reckoning = Reckoning::new();
         for event in events(seed) {
@@ -163,8 +175,8 @@ fn the_reckoning_finds_positions_futures_and_cash() {
             for (series, reckoned) in book.series.iter().zip(&reckoning.series) {
                 assert_eq!(series.positions, reckoned.position, "positions of market {seed}");
                 assert_eq!(series.futures, reckoned.futures, "futures of market {seed}");
-                assert_eq!(series.positions.iter().sum::<i64>(), 0, "positions of market {seed}");
-                assert_eq!(series.futures.iter().sum::<i64>(), 0, "futures of market {seed}");
+                assert_eq!(series.positions.as_flattened().iter().sum::<i64>(), 0, "positions of market {seed}");
+                assert_eq!(series.futures.as_flattened().iter().sum::<i64>(), 0, "futures of market {seed}");
             }
             if event == Event::Evening {
                 evenings += 1;
@@ -181,9 +193,45 @@ fn the_reckoning_finds_positions_futures_and_cash() {
 }
 
 #[test]
+fn nothing_is_in_a_section_that_no_event_names() {
+    let mut evenings = 0;
+    for seed in GATE_SEEDS {
+        let mut book = Book::new();
+        for event in events(seed).into_iter().take_while(|event| !names_section_1(event)) {
+            // Before an evening there are requests and declines, after it futures and opening positions.
+            if event == Event::Evening {
+                assert!(has_nothing_in_section_1(&book), "market {seed}");
+            }
+            if book.apply(event).is_ok() && event == Event::Evening {
+                evenings += 1;
+                assert!(has_nothing_in_section_1(&book), "market {seed}");
+            }
+        }
+    }
+    assert!(evenings > 10_000);
+}
+
+fn has_nothing_in_section_1(book: &Book) -> bool {
+    let has_nothing = |places: &Amounts| places.iter().all(|sections| sections[1] == 0);
+    book.series.iter().all(|series| {
+        let amounts = [&series.positions, &series.opening, &series.requests, &series.futures];
+        amounts.into_iter().all(has_nothing) && series.declined.iter().all(|sections| !sections[1])
+    })
+}
+
+/// A section above it names nothing that a book has.
+fn names_section_1(event: &Event) -> bool {
+    match event {
+        Event::Trade { buyer, seller, .. } => buyer.section == 1 || seller.section == 1,
+        Event::Exercise { holder, .. } | Event::Decline { holder, .. } => holder.section == 1,
+        _ => false,
+    }
+}
+
+#[test]
 fn marks_made_for_an_intraday_session_move_no_evening_cash() {
     let mut moved = 0;
-    for seed in GATE_SEEDS {
+    for seed in gate_seeds() {
         let events = events(seed);
         let mut book = Book::new();
         let carried_out: Vec<bool> = events.iter().map(|&event| book.apply(event).is_ok()).collect();

@@ -17,11 +17,11 @@ use std::time::Duration;
 
 use second::calendar::{File, MOST_BYTES, MOST_DATES};
 use second::codes::Date;
-use second::market::{calendar, codes, kind, market, odd_calendar, with_days};
+use second::market::{calendar, codes, kind, market, odd_calendar, with_days, with_sections};
 use second::program::{finish, write_calendar, End, Folder, Program, PATIENCE};
 use second::random::Random;
 use second::rows::Rows;
-use second::{code_lines, output, replay, GATE_CALENDARS, GATE_CODES, GATE_SEEDS};
+use second::{code_lines, gate_seeds, output, replay, GATE_CALENDARS, GATE_CODES};
 
 /// How long a program may take where it has next to nothing to do.
 const AT_ONCE: Duration = Duration::from_secs(5);
@@ -29,7 +29,7 @@ const AT_ONCE: Duration = Duration::from_secs(5);
 /// How many differences are told in full.
 const TOLD: u64 = 5;
 
-/// So many markets are run once more with days in the place of dates.
+/// So many markets are run once more with days in the place of dates, and so many with every section written.
 const REWRITTEN: usize = 50;
 
 #[derive(Clone, Copy, PartialEq, Eq)]
@@ -42,7 +42,7 @@ struct Options {
     subject: Subject,
     program: PathBuf,
     directory: PathBuf,
-    seeds: Range<u64>,
+    seeds: Vec<u64>,
     /// Of calendars that are compared beside the markets.
     calendars: Range<u64>,
 }
@@ -111,15 +111,15 @@ fn main() -> ExitCode {
 
 fn options(words: &[String]) -> Option<Options> {
     let (subject, gate, words) = match words {
-        [word, rest @ ..] if word == "codes" => (Subject::Codes, GATE_CODES, rest),
-        _ => (Subject::Markets, GATE_SEEDS, words),
+        [word, rest @ ..] if word == "codes" => (Subject::Codes, GATE_CODES.collect(), rest),
+        _ => (Subject::Markets, gate_seeds().collect(), words),
     };
     let (program, directory, seeds, calendars) = match words {
         [program, directory] => (program, directory, gate, GATE_CALENDARS),
         [program, directory, first, count] => {
             let first: u64 = first.parse().ok()?;
             let seeds = first..first.checked_add(count.parse().ok()?)?;
-            (program, directory, seeds.clone(), seeds)
+            (program, directory, seeds.clone().collect(), seeds)
         }
         _ => return None,
     };
@@ -149,8 +149,8 @@ impl Comparison {
         }
     }
 
-    fn markets(&mut self, seeds: Range<u64>, calendars: Range<u64>) {
-        for seed in seeds.clone() {
+    fn markets(&mut self, seeds: Vec<u64>, calendars: Range<u64>) {
+        for &seed in &seeds {
             let result = self.market(seed);
             self.count(&format!("market {seed} ({:?})", kind(seed)), result);
         }
@@ -158,9 +158,13 @@ impl Comparison {
             let result = self.odd_calendar(seed);
             self.count(&format!("calendar {seed}"), result);
         }
-        for seed in seeds.filter(|&seed| lists_by_date(seed)).take(REWRITTEN) {
+        for &seed in seeds.iter().filter(|&&seed| lists_by_date(seed)).take(REWRITTEN) {
             let result = self.days_for_dates(seed);
             self.count(&format!("market {seed} with days for dates"), result);
+        }
+        for &seed in seeds.iter().filter(|&&seed| leaves_sections_out(seed)).take(REWRITTEN) {
+            let result = self.written_sections(seed);
+            self.count(&format!("market {seed} with every section written"), result);
         }
         let cases: [(&str, Case); 10] = [
             ("closed output", Self::closed_output),
@@ -184,7 +188,7 @@ impl Comparison {
         self.count_or_skip("calendar that is a pipe", result);
     }
 
-    fn codes(&mut self, seeds: Range<u64>) {
+    fn codes(&mut self, seeds: Vec<u64>) {
         for seed in seeds {
             let result = self.lines_of_codes(seed);
             self.count(&format!("codes {seed}"), result);
@@ -224,6 +228,15 @@ impl Comparison {
         let rewritten = with_days(&input, &file.calendar().unwrap_or_default());
         let end = self.program.run_on_file(&rewritten);
         self.keep(&format!("days-{seed}"), &file, &input, check(end, &input, &by_date))
+    }
+
+    /// A market gives the lines of the same market that has sections 0 wherever it leaves sections out.
+    fn written_sections(&mut self, seed: u64) -> Result<(), String> {
+        let (file, input) = (calendar(seed), market(seed));
+        self.put(&file)?;
+        let (left_out, _) = self.program.run_on_file(&input)?;
+        let end = self.program.run_on_file(&with_sections(&input, 0));
+        self.keep(&format!("sections-{seed}"), &file, &input, check(end, &input, &left_out))
     }
 
     /// The whole output on the codes of one seed.
@@ -473,6 +486,12 @@ fn listings_by_its_dates(calendar: &File) -> Vec<u8> {
 fn lists_by_date(seed: u64) -> bool {
     let rows = market(seed);
     calendar(seed).calendar().is_ok_and(|calendar| with_days(&rows, &calendar) != rows)
+}
+
+/// Whether the market of a seed is run, and has rows that leave their sections out.
+fn leaves_sections_out(seed: u64) -> bool {
+    let rows = market(seed);
+    calendar(seed).calendar().is_ok() && with_sections(&rows, 0) != rows
 }
 
 fn answers(calendar: &File, input: &[u8]) -> Vec<u8> {

@@ -37,9 +37,19 @@ fn session(book: &mut Book, row: &str) -> Session {
     }
 }
 
-/// An array with these first places and 0 in the others.
-fn first(places: &[i64]) -> [i64; ACCOUNTS] {
-    std::array::from_fn(|account| places.get(account).copied().unwrap_or(0))
+/// Money of the first accounts, and 0 of the others.
+fn first(money: &[i64]) -> [i64; ACCOUNTS] {
+    array::from_fn(|account| money.get(account).copied().unwrap_or(0))
+}
+
+/// What the first accounts have in their two sections; the others have nothing.
+fn in_both(sections: &[[i64; SECTIONS]]) -> Places<i64> {
+    array::from_fn(|account| sections.get(account).copied().unwrap_or_default())
+}
+
+/// What the first accounts have in section 0; the others have nothing.
+fn in_0(amounts: &[i64]) -> Places<i64> {
+    first(amounts).map(|amount| [amount, 0])
 }
 
 const CALL: &str = "L,GAZR-3.23M150323CA17000,100,5";
@@ -57,32 +67,52 @@ fn half_of_five() {
 
 #[test]
 fn splits() {
-    assert_eq!(assign(3, &first(&[2, 2, 2])), first(&[1, 1, 1]));
-    assert_eq!(assign(2, &first(&[1, 1, 1])), first(&[1, 1, 0]));
+    assert_eq!(assign(3, &in_0(&[2, 2, 2])), in_0(&[1, 1, 1]));
+    assert_eq!(assign(2, &in_0(&[1, 1, 1])), in_0(&[1, 1, 0]));
     // Leftovers don't all go to account 0: 7 × 2, 3, 5 / 10 is 1.4, 2.1, 3.5.
-    assert_eq!(assign(7, &first(&[2, 3, 5])), first(&[1, 2, 4]));
+    assert_eq!(assign(7, &in_0(&[2, 3, 5])), in_0(&[1, 2, 4]));
     // 3 × 1, 2, 2 / 5 is 0.6, 1.2, 1.2 and 4 × 1, 2, 2 / 5 is 0.8, 1.6, 1.6.
-    assert_eq!(assign(3, &first(&[1, 2, 2])), first(&[1, 1, 1]));
-    assert_eq!(assign(4, &first(&[1, 2, 2])), first(&[1, 2, 1]));
-    assert_eq!(assign(0, &first(&[1, 2, 2])), first(&[]));
-    assert_eq!(assign(0, &first(&[])), first(&[]));
+    assert_eq!(assign(3, &in_0(&[1, 2, 2])), in_0(&[1, 1, 1]));
+    assert_eq!(assign(4, &in_0(&[1, 2, 2])), in_0(&[1, 2, 1]));
+    assert_eq!(assign(0, &in_0(&[1, 2, 2])), in_0(&[]));
+    assert_eq!(assign(0, &in_0(&[])), in_0(&[]));
+}
+
+#[test]
+fn equal_remainders_go_by_account_and_then_section() {
+    let short = in_both(&[[1, 1], [1, 1], [1, 1]]);
+    for (exercised, assigned) in [
+        (1, [[1, 0], [0, 0], [0, 0]]),
+        (2, [[1, 1], [0, 0], [0, 0]]),
+        (3, [[1, 1], [1, 0], [0, 0]]),
+        (4, [[1, 1], [1, 1], [0, 0]]),
+        (5, [[1, 1], [1, 1], [1, 0]]),
+        (6, [[1, 1], [1, 1], [1, 1]]),
+    ] {
+        assert_eq!(assign(exercised, &short), in_both(&assigned));
+    }
+    // The largest remainder comes first, whichever section it is in: 2 × 1, 2, 2, 1 / 6 is 0.33, 0.67, 0.67, 0.33.
+    assert_eq!(assign(2, &in_both(&[[1, 2], [2, 1]])), in_both(&[[0, 1], [1, 0]]));
+    // An account is no writer of what its sections are short together: 1 × 2, 2, 3 / 7, and not 1 × 4, 3 / 7.
+    assert_eq!(assign(1, &in_both(&[[2, 2], [3, 0]])), in_both(&[[0, 0], [1, 0]]));
 }
 
 #[test]
 fn shares_add_up_and_nobody_gets_more_than_he_is_short() {
     let mut random = crate::random::Random::new(1);
     for _ in 0..2_000 {
-        let writers = random.between(1, 63) as usize;
-        let largest = random.pick(&[1, 2, 3, 10, 100_000]);
-        let mut short = [0; ACCOUNTS];
-        for short in short.iter_mut().take(writers) {
+        let writers = random.between(1, 127) as usize;
+        let largest = random.pick(&[1, 2, 3, 10, 50_000]);
+        let mut short = NOTHING;
+        for short in short.as_flattened_mut().iter_mut().take(writers) {
             *short = random.between(0, largest) as i64;
         }
-        let all: i64 = short.iter().sum();
+        let all: i64 = short.as_flattened().iter().sum();
         let exercised = random.between(0, all as u64) as i64;
         let assigned = assign(exercised, &short);
-        assert_eq!(assigned.iter().sum::<i64>(), exercised);
-        assert!((0..ACCOUNTS).all(|account| (0..=short[account]).contains(&assigned[account])));
+        assert_eq!(assigned.as_flattened().iter().sum::<i64>(), exercised);
+        let mut places = short.as_flattened().iter().zip(assigned.as_flattened());
+        assert!(places.all(|(short, assigned)| (0..=*short).contains(assigned)));
     }
 }
 
@@ -93,12 +123,42 @@ fn limits() {
     assert_eq!(refused(&mut book, "T,0,1,2,1001,0"), 6);
     assert_eq!(refused(&mut book, "T,0,1,2,0,0"), 6);
     run(&mut book, &"T,0,1,2,1000,0 ".repeat(99));
-    assert_eq!(book.series[0].positions[1], 100_000);
-    assert_eq!(book.series[0].positions[2], -100_000);
+    assert_eq!(book.series[0].positions, in_0(&[0, 100_000, -100_000]));
     assert_eq!(refused(&mut book, "T,0,1,3,1,0"), 8);
     assert_eq!(refused(&mut book, "T,0,3,2,1,0"), 8);
     run(&mut book, "T,0,2,1,1,0");
     run(&mut book, "T,0,1,2,1,0");
+}
+
+#[test]
+fn the_limit_is_on_both_sections_without_sign() {
+    let mut book = book(CALL);
+    // Account 1 is long in section 0 and short in section 1: 0 in all with sign, 100,000 without.
+    run(&mut book, &"T,0,1,2,1000,0,0,1 T,0,3,1,1000,0,1,1 ".repeat(50));
+    assert_eq!(book.series[0].positions, in_both(&[[0, 0], [50_000, -50_000], [0, -50_000], [0, 50_000]]));
+    for row in ["T,0,1,4,1,0,0,0", "T,0,4,1,1,0,1,1"] {
+        assert_eq!(refused(&mut book, row), 8, "{row}");
+    }
+    // What lowers it stands, in either section, and so does what brings it back.
+    run(&mut book, "T,0,4,1,1,0,0,0 T,0,4,1,1,0,0,1 T,0,1,4,1,0,1,0 T,0,1,4,1,0,0,1");
+    assert_eq!(book.series[0].positions[1], [50_000, -50_000]);
+    // Each side by itself: the other one has room.
+    assert_eq!(refused(&mut book, "T,0,1,5,1,0,0,1"), 8);
+    assert_eq!(refused(&mut book, "T,0,5,1,1,0,0,1"), 8);
+}
+
+#[test]
+fn the_limit_where_a_section_changes_its_sign() {
+    let mut book = book(&format!("{CALL} T,0,3,1,10,0,0,1 T,0,1,4,990,0,0,0"));
+    run(&mut book, &"T,0,1,2,1000,0,0,0 ".repeat(99));
+    assert_eq!(book.series[0].positions[1], [99_990, -10]);
+    assert_eq!(refused(&mut book, "T,0,1,5,21,0,1,0"), 8);
+    run(&mut book, "T,0,1,5,20,0,1,0");
+    assert_eq!(book.series[0].positions[1], [99_990, 10]);
+    assert_eq!(refused(&mut book, "T,0,1,5,1,0,1,0"), 8);
+    assert_eq!(refused(&mut book, "T,0,5,1,21,0,0,1"), 8);
+    run(&mut book, "T,0,5,1,20,0,0,1");
+    assert_eq!(book.series[0].positions[1], [99_990, -10]);
 }
 
 // The false friends of RULES, "Values and splits".
@@ -180,6 +240,46 @@ fn trade_refusals_in_their_order() {
     assert_eq!(refused(&mut book, "T,1,1,2,1,50"), 7);
     assert_eq!(refused(&mut book, "T,1,1,2,1,0"), 8);
     assert_eq!(refused(&mut book, "T,1,3,4,1,0"), 9);
+    for row in ["T,1,1,2,1,50,2,0", "T,1,1,2,1,0,0,2", "T,1,3,4,1,0,2,2"] {
+        assert_eq!(refused(&mut book, row), 23, "{row}");
+    }
+}
+
+#[test]
+fn unknown_sections_come_directly_behind_unknown_accounts() {
+    let mut book = book(&format!("L,GAZR-3.23M150323CA17000,100,0 {CALL} M,0,0,0,100000 M,1,0,0,100000 V"));
+    for section in ["2", "3", "10", "256", "257", "4294967296", "999999999999999999"] {
+        for (row, number) in [
+            ("T,2,64,64,1001,1000050,SECTION,SECTION", 2),
+            ("T,0,64,64,1001,1000050,SECTION,SECTION", 3),
+            ("T,1,64,1,1001,1000050,SECTION,0", 4),
+            // Both accounts come before both sections.
+            ("T,1,64,1,1001,1000050,0,SECTION", 4),
+            ("T,1,1,64,1001,1000050,SECTION,0", 4),
+            ("T,1,1,300,1001,1000050,0,SECTION", 4),
+            ("T,1,1,1,1001,1000050,SECTION,0", 23),
+            ("T,1,1,1,1001,1000050,1,SECTION", 23),
+            ("T,1,1,1,1001,1000050,SECTION,SECTION", 23),
+            ("T,1,1,2,1,0,SECTION,0", 23),
+            ("T,1,1,2,1,0,1,SECTION", 23),
+            ("X,2,64,6,SECTION", 2),
+            ("X,0,64,6,SECTION", 3),
+            ("X,1,64,6,SECTION", 4),
+            ("X,1,1,6,SECTION", 23),
+            ("X,1,1,0,SECTION", 23),
+            ("D,2,64,SECTION", 2),
+            ("D,0,64,SECTION", 3),
+            ("D,1,64,SECTION", 4),
+            ("D,1,1,SECTION", 23),
+        ] {
+            let row = row.replace("SECTION", section);
+            assert_eq!(refused(&mut book, &row), number, "{row}");
+        }
+    }
+    // Buyer and seller are accounts, so that a trade between its own sections is an account's own trade.
+    for row in ["T,1,1,1,1,0,0,0", "T,1,1,1,1,0,0,1", "T,1,1,1,1,0,1,0", "T,1,1,1,1,0,1,1", "T,1,1,1,1001,50,0,1"] {
+        assert_eq!(refused(&mut book, row), 5, "{row}");
+    }
 }
 
 #[test]
@@ -217,6 +317,30 @@ fn exercise_refusals_in_their_order() {
     assert_eq!(refused(&mut book, "X,1,1,6"), 13);
     assert_eq!(refused(&mut book, "X,1,2,1"), 13);
     assert_eq!(refused(&mut book, "X,1,3,999999999999999999"), 13);
+}
+
+#[test]
+fn unknown_sections_come_before_the_day_and_the_position() {
+    let mut book = book("L,GAZR-3.23M150323CE17000,100,1 T,0,1,2,5,0");
+    for row in ["X,0,1,6,2", "X,0,1,0,2", "D,0,1,2"] {
+        assert_eq!(refused(&mut book, row), 23, "{row}");
+    }
+    for row in ["X,0,1,6,1", "X,0,1,0,1", "D,0,1,1"] {
+        assert_eq!(refused(&mut book, row), 12, "{row}");
+    }
+    run(&mut book, "M,0,0,0,100000 V");
+    assert_eq!(refused(&mut book, "X,0,1,6,2"), 23);
+}
+
+#[test]
+fn a_request_is_held_against_its_own_section() {
+    let mut book = book(&format!("{CALL} T,0,1,2,5,0,0,1 T,0,1,2,7,0,1,1 T,0,2,3,4,0,0,0"));
+    assert_eq!(book.series[0].positions, in_both(&[[0, 0], [5, 7], [4, -12], [-4, 0]]));
+    for row in ["X,0,1,6", "X,0,1,6,0", "X,0,1,8,1", "X,0,1,12,1", "X,0,2,1,1", "X,0,2,5,0", "X,0,3,1,1"] {
+        assert_eq!(refused(&mut book, row), 13, "{row}");
+    }
+    run(&mut book, "X,0,1,5,0 X,0,1,7,1 X,0,2,4,0 X,0,2,0,1 X,0,3,0,1");
+    assert_eq!(book.series[0].requests, in_both(&[[0, 0], [5, 7], [4, 0]]));
 }
 
 #[test]
@@ -285,6 +409,9 @@ fn after_the_last_evening() {
     {
         assert_eq!(refused(&mut book, row), 1, "{row}");
     }
+    for row in ["T,0,1,2,3,0,1,1", "T,0,1,2,3,0,2,0", "X,0,1,1,2", "D,0,1,2"] {
+        assert_eq!(refused(&mut book, row), 1, "{row}");
+    }
 }
 
 // The sessions.
@@ -329,7 +456,7 @@ fn american_exercise_before_the_last_day() {
     // n is the position after exercise.
     assert_eq!(session.money, first(&[6 * 300, -6 * 300]));
     assert_eq!(session.futures, [(0, 0, 4), (0, 1, -4)]);
-    assert_eq!(book.series[0].positions, first(&[6, -6]));
+    assert_eq!(book.series[0].positions, in_0(&[6, -6]));
     // Requests last a day.
     run(&mut book, "M,0,300,0,100000");
     assert_eq!(self::session(&mut book, "V").futures, []);
@@ -356,8 +483,8 @@ fn in_at_and_out_of_the_money() {
         ("PE", 1_700_001, 0),
     ] {
         let mut book = book(&format!("L,GAZR-3.23M150323{kind}17000,100,0 T,0,0,1,5,0 M,0,0,{futures},100000 V"));
-        assert_eq!(book.series[0].futures, first(&[exercised, -exercised]), "{kind} {futures}");
-        assert_eq!(book.series[0].positions, first(&[]));
+        assert_eq!(book.series[0].futures, in_0(&[exercised, -exercised]), "{kind} {futures}");
+        assert_eq!(book.series[0].positions, in_0(&[]));
         assert_eq!(refused(&mut book, "X,0,0,0"), 3);
     }
 }
@@ -378,7 +505,7 @@ fn requests_and_declines_on_the_last_day() {
     ] {
         let mut book = book(&format!("L,GAZR-3.23M150323CE17000,100,0 T,0,0,1,5,0 {rows} M,0,0,1700000,100000"));
         session(&mut book, "V");
-        assert_eq!(book.series[0].futures, first(&[exercised, -exercised]), "{rows}");
+        assert_eq!(book.series[0].futures, in_0(&[exercised, -exercised]), "{rows}");
     }
 }
 
@@ -387,4 +514,98 @@ fn futures_by_series_and_account() {
     let mut book = book(&format!("{CALL} L,GAZR-3.23M150323PA17000,100,5 T,0,5,0,2,0 T,1,1,9,2,0 X,0,5,2 X,1,1,1"));
     run(&mut book, "M,0,0,0,100000 M,1,0,0,100000");
     assert_eq!(session(&mut book, "V").futures, [(0, 0, -2), (0, 5, 2), (1, 1, -1), (1, 9, 1)]);
+}
+
+// Sections.
+
+#[test]
+fn half_is_taken_of_each_section() {
+    for (kind, sign, of_5, of_10) in [("CA", 1, 3, 5), ("PE", -1, 2, 5)] {
+        let day = |trades: &str| {
+            let mut book = book(&format!("L,GAZR-3.23M150323{kind}17000,100,0 {trades} M,0,0,1700000,100000"));
+            (session(&mut book, "V").futures, book.series[0].futures)
+        };
+        let (arisen, futures) = day("T,0,0,1,5,0,0,0 T,0,0,1,5,0,1,0");
+        assert_eq!(arisen, [(0, 0, 2 * sign * of_5), (0, 1, -2 * sign * of_5)]);
+        assert_eq!(futures, in_both(&[[sign * of_5, sign * of_5], [-2 * sign * of_5, 0]]));
+        let (arisen, futures) = day("T,0,0,1,10,0,1,0");
+        assert_eq!(arisen, [(0, 0, sign * of_10), (0, 1, -sign * of_10)]);
+        assert_eq!(futures, in_both(&[[0, sign * of_10], [-sign * of_10, 0]]));
+    }
+}
+
+#[test]
+fn a_holder_is_assigned_as_a_writer_in_his_other_section() {
+    // He holds 4 and is short 6, another is short 4 and a third holds 6. Of 4 exercised, 4 × 6, 4 / 10 is 2.4, 1.6.
+    let mut book = book(&format!("{CALL} T,0,0,1,4,0,0,0 T,0,2,0,6,0,1,1 X,0,0,4,0 M,0,0,0,100000"));
+    assert_eq!(book.series[0].positions, in_both(&[[4, -6], [-4, 0], [0, 6]]));
+    let session = session(&mut book, "V");
+    assert_eq!(book.series[0].futures, in_both(&[[4, -2], [-2, 0], [0, 0]]));
+    assert_eq!(book.series[0].positions, in_both(&[[0, -4], [-2, 0], [0, 6]]));
+    assert_eq!(session.futures, [(0, 0, 2), (0, 1, -2)]);
+}
+
+#[test]
+fn futures_that_cancel_out_have_no_line() {
+    // In the money all holders exercise and all writers are assigned: account 0 in section 1 by the same count.
+    let mut book = book("L,GAZR-3.23M150323CA17000,100,0 T,0,0,1,7,0,0,0 T,0,2,0,7,0,0,1 M,0,0,1700001,100000");
+    assert_eq!(session(&mut book, "V").futures, [(0, 1, -7), (0, 2, 7)]);
+    assert_eq!(book.series[0].futures, in_both(&[[7, -7], [-7, 0], [7, 0]]));
+}
+
+#[test]
+fn requests_and_declines_leave_the_other_section_alone() {
+    // Of 5 calls at the money 3 are exercised without a word, in each section.
+    for (rows, exercised) in [
+        ("", [3, 3]),
+        ("X,0,0,4,0", [4, 3]),
+        ("X,0,0,4,1", [3, 4]),
+        ("X,0,0,4,1 X,0,0,5,0", [5, 4]),
+        ("D,0,0,0", [0, 3]),
+        ("D,0,0,1", [3, 0]),
+        ("D,0,0", [0, 3]),
+        ("X,0,0,4,1 D,0,0,0", [0, 4]),
+        ("X,0,0,4,1 D,0,0,1", [3, 0]),
+        ("D,0,0,0 D,0,0,1 X,0,0,0,1", [0, 3]),
+        ("D,0,0,0 X,0,0,4,1", [0, 4]),
+        ("D,0,1,1", [3, 3]),
+    ] {
+        let trades = "T,0,0,1,5,0,0,0 T,0,0,1,5,0,1,0";
+        let mut book = book(&format!("L,GAZR-3.23M150323CE17000,100,0 {trades} {rows} M,0,0,1700000,100000 V"));
+        let all = exercised.iter().sum::<i64>();
+        assert_eq!(book.series[0].futures, in_both(&[exercised, [-all, 0]]), "{rows}");
+        assert_eq!(refused(&mut book, "D,0,0,1"), 3);
+    }
+}
+
+#[test]
+fn money_is_the_accounts_whatever_the_sections() {
+    let day = |sections: [&str; 4]| {
+        let [a, b, c, d] = sections;
+        let mut book = book(&format!(
+            "{CALL} T,0,0,1,10,500{a} T,0,2,0,4,600{b} M,0,650,0,100000 I T,0,0,2,3,700{c} M,0,800,0,90000 V"
+        ));
+        let first_day = book.cash;
+        run(&mut book, &format!("T,0,1,0,5,900{d} M,0,750,0,100000 V"));
+        (first_day, book.cash)
+    };
+    let in_section_0 = day([""; 4]);
+    assert_ne!(in_section_0.0, first(&[]));
+    for sections in [
+        [",0,0", ",0,0", ",0,0", ",0,0"],
+        [",1,1", ",1,1", ",1,1", ",1,1"],
+        [",0,1", ",0,1", ",1,0", ",0,1"],
+        [",1,0", ",1,0", "", ",0,1"],
+    ] {
+        assert_eq!(day(sections), in_section_0, "{sections:?}");
+    }
+}
+
+#[test]
+fn each_section_starts_the_day_with_its_own_position() {
+    let book = book(&format!("{CALL} T,0,0,1,10,500,0,0 T,0,1,0,4,500,1,1 M,0,700,0,100000 V"));
+    assert_eq!(book.series[0].opening, in_both(&[[10, -4], [-10, 4]]));
+    assert_eq!(book.series[0].positions, book.series[0].opening);
+    // 6 × 700 − 6 × 500.
+    assert_eq!(book.cash, first(&[1200, -1200]));
 }

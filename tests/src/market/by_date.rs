@@ -2,11 +2,11 @@
 
 use std::fmt::Display;
 
-use super::{calendar, text, Market};
+use super::{calendar, text, with_ends, Market};
 use crate::book::SERIES;
 use crate::calendar::Calendar;
 use crate::codes::{self, Date, Terms};
-use crate::rows::{find_crlf, LONGEST_ROW};
+use crate::rows::LONGEST_ROW;
 
 const STRIKES: [&str; 4] = ["17000", "0.01", "72.5", "100000"];
 const STRIKES_OUT_OF_BOUNDS: [&str; 4] = ["0", "100000.01", "100001", "18446744073709551617"];
@@ -129,18 +129,7 @@ fn dated(terms: Terms, date: Date) -> Vec<u8> {
 
 /// The same rows, except that each listing by date gives the day that its date has, if it has one.
 pub fn with_days(input: &[u8], calendar: &Calendar) -> Vec<u8> {
-    let mut output = Vec::with_capacity(input.len());
-    let mut rest = input;
-    loop {
-        let (row, others) = rest.split_at(find_crlf(rest).unwrap_or(rest.len()));
-        output.extend_from_slice(row);
-        if let Some(day) = day_of_listing(row, calendar) {
-            output.extend_from_slice(format!(",{day}").as_bytes());
-        }
-        let Some(others) = others.strip_prefix(b"\r\n") else { return output };
-        output.extend_from_slice(b"\r\n");
-        rest = others;
-    }
+    with_ends(input, |row| day_of_listing(row, calendar).map_or(String::new(), |day| format!(",{day}")))
 }
 
 fn day_of_listing(row: &[u8], calendar: &Calendar) -> Option<usize> {

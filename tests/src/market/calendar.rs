@@ -38,9 +38,10 @@ pub fn of_market(seed: u64, random: &mut Random) -> File {
 /// Mostly about as many dates as the market has days.
 fn length(kind: Kind, random: &mut Random) -> usize {
     let longest = MOST_DATES as u64;
+    let is_ending = matches!(kind, Kind::Ending | Kind::SectionEnding);
     let length = match random.below(8) {
-        0..=2 if kind == Kind::Ending => longest,
-        3..=5 if kind == Kind::Ending => random.between(longest - 12, longest),
+        0..=2 if is_ending => longest,
+        3..=5 if is_ending => random.between(longest - 12, longest),
         0 => 1,
         1..=4 => random.between(2, 16),
         5 | 6 => random.between(40, 75),

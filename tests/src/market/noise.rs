@@ -1,6 +1,6 @@
 //! Inputs that are no market.
 
-use super::{market_with, KINDS};
+use super::{market_of, Kind, KINDS};
 use crate::calendar::Calendar;
 use crate::random::Random;
 
@@ -55,7 +55,7 @@ fn short_rows(random: &mut Random, count: usize) -> Vec<u8> {
 /// A market in which any byte may have been changed.
 fn with_changed_bytes(random: &mut Random, calendar: &Calendar) -> Vec<u8> {
     let seed = random.below(1 << 32) / KINDS.len() as u64 * KINDS.len() as u64;
-    let mut bytes = market_with(seed, calendar);
+    let mut bytes = market_of(Kind::Ordinary, seed, calendar);
     let changes = random.pick(&[1, 2, 10]);
     for byte in &mut bytes {
         if random.permille(changes) {
