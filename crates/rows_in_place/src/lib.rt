@@ -1,7 +1,10 @@
 // Rows that are events on one series: they are carried out in the book where it stands.
+use book::state::Effect;
 use book::state::Today;
 use buffers::put_answer;
 use buffers::up_to;
+use positions_apart::put_back;
+use positions_apart::taken_out;
 use stream::types::Passed;
 use stream::types::Replay;
 use stream::types::SeriesRow;
@@ -12,7 +15,8 @@ ghost use Rattle.stream.specs.Output.{Ready};
 ghost use Rattle.stream.specs.Parts.{FirstPassed};
 
 // From a place of a buffer on, the rows that are events on one series, up to the first other row. The book stays where it is: each
-// row changes one series of it, and the blotter.
+// row changes one series of it, and the blotter. The positions stand apart meanwhile, so that a trade, which changes nothing else of a
+// series, does not copy the rest of it.
 pub fn series_rows(
     calendar: &[u64],
     input: &[u8],
@@ -24,6 +28,8 @@ pub fn series_rows(
     ensures { λ r. ⌜ FirstPassed (datesOf (now (calendar .entry))) (now (input .entry)) start replay (now (out .entry)) r (now (out .exit)) ⌝ }
 {
     let mut book = replay.book;
+    let all = book.series;
+    let mut held = taken_out(all);
     let mut row = replay.row;
     let mut at = replay.at;
     let mut intact = replay.intact;
@@ -35,23 +41,22 @@ pub fn series_rows(
             next,
         } = series_row::series_row(calendar, input, from)
         else {
+            let standing = book.series;
+            let rejoined = put_back(standing, held);
+            book.series = rejoined;
             return up_to(book, row, at, intact, from);
         };
-        let mut s = book.series[series];
+        let s = book.series[series];
         let listing = s.listing;
-        let mark = s.mark;
         let today = Today {
             day: book.day,
             listed: book.listed,
             trades: book.trades,
         };
-        let effect = effect::effect(today, listing, &s.positions, event);
-        apply::move_positions(&mut s.positions, effect);
-        apply::set_request(&mut s.requests, effect);
-        apply::set_decline(&mut s.declined, effect);
-        let marked = apply::mark(mark, effect);
-        s.mark = marked;
-        book.series[series] = s;
+        let mut h = held[series];
+        let effect = effect::effect(today, listing, &h.positions, event);
+        apply::move_positions(&mut h.positions, effect);
+        held[series] = h;
         let n = apply::next_record(book.trades);
         let standing = book.blotter[n];
         let entry = apply::entry(standing, effect);
@@ -63,5 +68,15 @@ pub fn series_rows(
         at = waiting.at;
         intact = waiting.intact;
         from = next;
+        if let Effect::Traded(_) = effect {
+            continue;
+        }
+        let mut asked = book.series[series];
+        let mark = asked.mark;
+        apply::set_request(&mut asked.requests, effect);
+        apply::set_decline(&mut asked.declined, effect);
+        let marked = apply::mark(mark, effect);
+        asked.mark = marked;
+        book.series[series] = asked;
     }
 }

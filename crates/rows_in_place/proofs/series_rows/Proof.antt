@@ -1,24 +1,31 @@
--- `rows_in_place::series_rows` meets its contract: each row is its event's step, which keeps the book good, and has its
--- answer's line alone.
+-- `rows_in_place::series_rows` meets its contract: each row is its event's step, which keeps the book good, and has its answer's line
+-- alone. The book of a turn is the one in the loop with the positions put back.
 use borrow.Author.Needs.{needs}
 use Prim.Native.Nat.{ℕ, _-_, _<_}
-use mathlib.Core.Path.{_≡_, refl, ap, _∙_}
+use mathlib.Core.Path.{_≡_, refl, sym, ap, ap₂, subst, _∙_}
 use native.Mathlib.Omega.{arith}
 use mathlib.Core.Bool.{Bool}
 use mathlib.Core.List.{List}
-use lib.ListN.{length}
+use lib.ListN.{length, length-set}
 use Rattle.contract.specs.declared.types.Date.{Date}
 use Rattle.calendar.specs.Days.{datesOf}
 use Rattle.integer.specs.Bounds.{Bounded}
-use Rattle.terms.specs.Bounds.{blotterRoom, maxPosition}
-use Rattle.book.specs.Effects.{Fits}
+use Rattle.integer.proofs.Table.{length-table}
+use Rattle.terms.specs.Bounds.{seriesRoom, blotterRoom, maxPosition}
+use Rattle.series.specs.Series.{withPositions}
+use Rattle.series.specs.declared.state.Series.{Series}
+use Rattle.book.specs.Apart.{heldAt, rejoined}
+use Rattle.book.specs.Effects.{Fits, effectOf, answerBy, positionsBy, requestsBy, declinesBy, markBy, recordBy, tradesBy}
 use Rattle.book.specs.Good.{Good}
-use Rattle.book.specs.State.{seriesAt}
+use Rattle.book.specs.State.{seriesAt, tradeAt, todayOf}
+use Rattle.book.specs.Step.{stepOf}
 use Rattle.book.specs.declared.state.Book.{Book}
+use Rattle.book.specs.declared.state.Effect.{Effect}
 use Rattle.book.specs.declared.state.Event.{Event}
-use Rattle.book.specs.declared.state.Step.{Step}
-use Rattle.book.proofs.Keeps.{stays-good}
-use Rattle.book.proofs.Effects.{next-record-within, effect-fits, step-stored}
+use Rattle.book.specs.declared.state.Held.{Held}
+use Rattle.book.proofs.Apart.{rejoined-taken, series-rejoined, stored-apart, traded-apart}
+use Rattle.book.proofs.Effects.{next-record-within, effect-fits, effectAt, answer-by-effect}
+use Rattle.book.proofs.Keeps.{good-step}
 use Rattle.stream.specs.Parts.{FirstPassed}
 use Rattle.stream.specs.declared.types.Replay.{Replay}
 use Rattle.stream.proofs.Books.{book-accepted, series-line}
@@ -33,26 +40,33 @@ abbrev state : Book → ℕ → ℕ → Bool → Replay
 state book row at intact = record { book = book; row = row; at = at; intact = intact }
 
 abbrev Inv-loop : tie.InvT-loop
-Inv-loop calendar input start out₀ book₀ row₀ at₀ intact₀ from₀ out book row at intact from =
-    (length out ≡ length out₀)
-    × FirstPassed (datesOf calendar) input start (state book₀ row₀ at₀ intact₀) out₀ (record { replay = state book row at intact; from = from }) out
+Inv-loop calendar input start out₀ book₀ held₀ row₀ at₀ intact₀ from₀ out book held row at intact from =
+    (length out ≡ length out₀) × (length (book .series) ≡ seriesRoom) × (length held ≡ seriesRoom)
+    × FirstPassed (datesOf calendar) input start (state book₀ row₀ at₀ intact₀) out₀ (record { replay = state (rejoined book held) row at intact; from = from }) out
 
 abbrev μ-loop : tie.MeasureT-loop
-μ-loop calendar input start out₀ book₀ row₀ at₀ intact₀ from₀ out book row at intact from = length input - from
+μ-loop calendar input start out₀ book₀ held₀ row₀ at₀ intact₀ from₀ out book held row at intact from = length input - from
 
 -- ---- a row that was found, and the turn of the loop
 module _ (c : tie.After-known-told Inv-loop μ-loop) where
   abbrev top : tie.At-loop Inv-loop μ-loop
   top = c .before .before .before .before
 
-  abbrev good : Good (top .loop .book)
-  good = top .loop .inv .1 .ready .good
+  abbrev first : tie.Start Inv-loop μ-loop
+  first = top .before .before .before .before .before .before .before
+
+  -- the book of this turn
+  abbrev now : Book
+  now = rejoined (top .loop .book) (top .loop .held)
+
+  abbrev good : Good now
+  good = top .loop .inv .3 .ready .good
 
   abbrev calendar : List Date
-  calendar = datesOf (top .before .before .before .before .before .args .calendar .now)
+  calendar = datesOf (first .args .calendar .now)
 
   abbrev input : List ℕ
-  input = top .before .before .before .before .before .args .input .now
+  input = first .args .input .now
 
   abbrev series-at : ℕ
   series-at = c .before .series .given .0 .0
@@ -63,24 +77,42 @@ module _ (c : tie.After-known-told Inv-loop μ-loop) where
   row : Found calendar input (top .loop .from) series-at event (c .before .series .given .0 .1 .1 .0)
   row = found _ _ _ (c .before .before .before .series-row .ensures) _ _ _ (c .before .series .given .1)
 
+  -- its series, as it stands in the loop
+  its-series : seriesAt now series-at ≡ withPositions (seriesAt (top .loop .book) series-at) (heldAt (top .loop .held) series-at .positions)
+  its-series = series-rejoined (top .loop .book) (top .loop .held) series-at (row .room)
+
+  bounded : Bounded maxPosition (heldAt (top .loop .held) series-at .positions)
+  bounded = subst (λ (s : Series). Bounded maxPosition (s .positions)) its-series (good .series series-at (row .room) .positions .bounded)
+
 -- where the effect of its event is known
 abbrev row-at : tie.After-effect Inv-loop μ-loop → tie.After-known-told Inv-loop μ-loop
 row-at c = c .before .before .before .before .before .before
 
-bounded : (o : tie.After-known-told Inv-loop μ-loop) → Bounded maxPosition (seriesAt (top o .loop .book) (series-at o) .positions)
-bounded o = good o .series (series-at o) (row o .room) .positions .bounded
-
 fits : (c : tie.After-effect Inv-loop μ-loop) → Fits (c .effect .result)
 fits c = rw (c .effect .ensures) (effect-fits _ _ _ (bounded (row-at c)) (event (row-at c)))
+
+effect-is : (c : tie.After-effect Inv-loop μ-loop) → c .effect .result ≡ effectAt (now (row-at c)) (series-at (row-at c)) (event (row-at c))
+effect-is c =
+    c .effect .ensures
+    ∙ ap (λ (s : Series). effectOf (todayOf (now (row-at c))) (s .listing) (s .positions) (event (row-at c))) (sym (its-series (row-at c)))
 
 record-within : (c : tie.After-next-record Inv-loop μ-loop) → c .next-record .result < blotterRoom
 record-within c = rw (c .next-record .ensures) (next-record-within _)
 
 -- ---- the loop begins, and ends at the first other row
+taken-out-requires : tie.Need-taken-out-requires Inv-loop μ-loop
+taken-out-requires c κs = search needs
+
 loop-holds : tie.Need-loop-holds Inv-loop μ-loop
 loop-holds c =
-    let s = c .before .before .before .before in
-    (refl, record { answered = up-to-none _ (s .args .replay) (s .args .out .now) _; later = omega arith; within = s .pre .1; ready = s .pre .0 })
+    let s = c .before .before .before .before .before .before in
+    let long = s .pre .0 .good .series-long in
+    let same : rejoined (s .args .replay .book) (c .taken-out .result) ≡ s .args .replay .book = rw (c .taken-out .ensures) (rejoined-taken (s .args .replay .book) long) in (
+      refl,
+      long,
+      rw (c .taken-out .ensures) (length-table seriesRoom _),
+      rw same (record { answered = up-to-none _ (s .args .replay) (s .args .out .now) _; later = omega arith; within = s .pre .1; ready = s .pre .0 }),
+    )
 
 series-row-requires : tie.Need-series-row-requires Inv-loop μ-loop
 series-row-requires c κs = search needs
@@ -91,14 +123,17 @@ enum-known-series c = search needs
 enum-told : tie.Need-enum-told Inv-loop μ-loop
 enum-told c = search needs
 
+put-back-requires : tie.Need-put-back-requires Inv-loop μ-loop
+put-back-requires c κs = search needs
+
 up-to-requires : tie.Need-up-to-requires Inv-loop μ-loop
 up-to-requires c κs = search needs
 
 same-length : tie.Need-same-length Inv-loop μ-loop
-same-length c = c .before .before .before .before .loop .inv .0
+same-length c = c .before .before .before .before .before .before .loop .inv .0
 
 returns : tie.Need-returns Inv-loop μ-loop
-returns c = rw (c .up-to .ensures) (c .before .before .before .before .loop .inv .1)
+returns c = rw (c .up-to .ensures, c .before .put-back .ensures) (c .before .before .before .before .before .before .loop .inv .3)
 
 -- ---- the event is carried out
 mul-s : tie.Need-mul-s Inv-loop μ-loop
@@ -107,27 +142,26 @@ mul-s c = omega (arith, row c .room)
 element-copy-out-s : tie.Need-element-copy-out-s Inv-loop μ-loop
 element-copy-out-s c = row c .room
 
+mul-h : tie.Need-mul-h Inv-loop μ-loop
+mul-h c = omega (arith, row (c .before .before) .room)
+
+array-copy-out-h : tie.Need-array-copy-out-h Inv-loop μ-loop
+array-copy-out-h c = row (c .before .before) .room
+
 effect-requires : tie.Need-effect-requires Inv-loop μ-loop
-effect-requires c κs = let o = c .before .before .before .before .before in rw (← row o .series) (good o .tick (series-at o))
+effect-requires c κs =
+    let o = c .before .before .before .before .before in
+    let tick = subst (λ (s : Series). series-at o < top o .loop .book .listed → 0 < s .listing .tick) (its-series o) (good o .tick (series-at o)) in
+    rw (← row o .series) tick
 
 move-positions-requires : tie.Need-move-positions-requires Inv-loop μ-loop
 move-positions-requires c κs = (fits (c .before), bounded (row-at (c .before)))
 
-set-request-requires : tie.Need-set-request-requires Inv-loop μ-loop
-set-request-requires c κs = fits (c .before .before .before)
+mul-held : tie.Need-mul-held Inv-loop μ-loop
+mul-held c = omega (arith, row (row-at (c .before .before)) .room)
 
-set-decline-requires : tie.Need-set-decline-requires Inv-loop μ-loop
-set-decline-requires c κs = fits (c .before .before .before .before .before)
-
-mark-requires : tie.Need-mark-requires Inv-loop μ-loop
-mark-requires c κs = search needs
-
--- ---- and stored
-mul-t27 : tie.Need-mul-t27 Inv-loop μ-loop
-mul-t27 c = omega (arith, row (row-at (c .before .before .before .before .before .before .before)) .room)
-
-element-set-from-book : tie.Need-element-set-from-book Inv-loop μ-loop
-element-set-from-book c = row (row-at (c .before .before .before .before .before .before .before)) .room
+array-set-from-held : tie.Need-array-set-from-held Inv-loop μ-loop
+array-set-from-held c = row (row-at (c .before .before)) .room
 
 next-record-requires : tie.Need-next-record-requires Inv-loop μ-loop
 next-record-requires c κs = search needs
@@ -148,84 +182,177 @@ element-set-from-entry : tie.Need-element-set-from-entry Inv-loop μ-loop
 element-set-from-entry c = record-within (c .before .before)
 
 counted-requires : tie.Need-counted-requires Inv-loop μ-loop
-counted-requires c κs = good (row-at (c .before .before .before .before .before .before .before .before .before .before)) .trades
+counted-requires c κs = good (row-at (c .before .before .before .before .before)) .trades
 
 answer-requires : tie.Need-answer-requires Inv-loop μ-loop
 answer-requires c κs = search needs
 
--- ---- the answer, and the next turn
+-- ---- the answer
 wrapping-add-u64-requires : tie.Need-wrapping-add-u64-requires Inv-loop μ-loop
 wrapping-add-u64-requires c κs = search needs
 
 put-answer-requires : tie.Need-put-answer-requires Inv-loop μ-loop
 put-answer-requires c κs =
-    let r = top (row-at (c .before .before .before .before .before .before .before .before .before .before .before .before .before .before)) .loop .inv .1 .ready in
+    let r = top (row-at (c .before .before .before .before .before .before .before .before .before)) .loop .inv .3 .ready in
     (r .waiting, r .room)
 
+enum-told-2 : tie.Need-enum-told-2 Inv-loop μ-loop
+enum-told-2 c = search needs
+
+-- ---- the next turn
+module _ (c : tie.After-slice-known2 Inv-loop μ-loop) where
+  abbrev put : tie.After-put-answer Inv-loop μ-loop
+  put = c .before .before
+
+  abbrev count : tie.After-wrapping-add-u64 Inv-loop μ-loop
+  count = put .before .before
+
+  abbrev counted : tie.After-counted Inv-loop μ-loop
+  counted = count .before .before
+
+  abbrev entered : tie.After-entry Inv-loop μ-loop
+  entered = counted .before
+
+  abbrev recorded : tie.After-next-record Inv-loop μ-loop
+  recorded = entered .before .before
+
+  abbrev moved : tie.After-move-positions Inv-loop μ-loop
+  moved = recorded .before
+
+  abbrev known : tie.After-effect Inv-loop μ-loop
+  known = moved .before .before
+
+  abbrev o : tie.After-known-told Inv-loop μ-loop
+  o = row-at known
+
+  abbrev l : tie.At-loop Inv-loop μ-loop
+  l = top o
+
+  abbrev from : Replay
+  from = first o .args .replay
+
+  answered : count .before .answer .result ≡ stepOf (now o) (event o) .answer
+  answered = count .before .answer .ensures ∙ ap answerBy (effect-is known) ∙ answer-by-effect (now o) (event o) (series-at o) (row o .series) (row o .room)
+
+  -- the row is passed, once the book is its step's
+  passed : (b : Book) → b ≡ stepOf (now o) (event o) .book
+      → FirstPassed (calendar o) (input o) (first o .args .start) (state (from .book) (from .row) (from .at) (from .intact)) (first o .args .out .now)
+      (record { replay = state b (count .wrapping-add-u64 .result) (put .put-answer .result .at) (put .put-answer .result .intact); from = o .before .series .given .0 .1 .1 .0 })
+      (put .put-answer .last .0)
+  passed b e =
+      let p = l .loop .inv .3 in
+      let r = row o in
+      let m = count .wrapping-add-u64 in
+      let w = put .put-answer in
+      let k : length (w .last .0) ≡ length (l .loop .out) = w .kept .0 in
+      record {
+        answered = up-to-next (rw (r .first) at (p .answered))
+            (lines-answered (e ∙ book-accepted (now o) (r .says)) (m .ensures)
+            (rw (← series-line (m .result) (now o) (good o) (event o) (rw (← r .series) (r .room)) answered (r .says)) (w .ensures)));
+        later = omega (arith, r .later, p .later);
+        within = r .within;
+        ready = record { good = subst Good (sym e) (good-step (now o) (good o) (event o)); waiting = w .ensures .room; room = omega (arith, k, p .ready .room) };
+      }
+
 loop-less : tie.Need-loop-less Inv-loop μ-loop
-loop-less c =
-    let r = row (row-at (c .before .before .before .before .before .before .before .before .before .before .before .before .before .before .before .before .before)) in
-    omega (arith, r .later, r .within)
+loop-less c = let r = row (o (c .before .before)) in omega (arith, r .later, r .within)
 
 loop-again : tie.Need-loop-again Inv-loop μ-loop
 loop-again c =
-    let answered = c .before .before .before .before .before in
-    let entered = answered .before .before in
-    let recorded = entered .before .before in
-    let marked = recorded .before in
-    let h = marked .before .before .before .before .before .before .before in
-    let o = row-at h in
-    let l = top o .loop in
-    let p = l .inv .1 in
-    let r = row o in
-    let s =
-    step-stored (l .book) (event o) _ _ (r .series) (r .room) (recorded .next-record .ensures) _ (h .effect .ensures)
-    (record {
-      answer = answered .answer .ensures;
-      moved = marked .before .before .before .before .before .move-positions .ensures;
-      requested = marked .before .before .before .set-request .ensures;
-      declining = marked .before .set-decline .ensures;
-      mark = marked .mark2 .ensures;
-      recorded = entered .entry .ensures;
-      counted = answered .before .counted .ensures;
-    }) in
-    let m = c .before .before .before .before .wrapping-add-u64 in
-    let w = c .before .before .put-answer in
-    let k : length (w .last .0) ≡ length (l .out) = w .kept .0 in (
-      omega (arith, k, l .inv .0),
-      record {
-        answered = up-to-next (rw (r .first) at (p .answered))
-            (lines-answered (ap (λ (x : Step). x .book) s ∙ book-accepted (l .book) (r .says)) (m .ensures)
-            (rw (← series-line (m .result) (l .book) (good o) (event o) (rw (← r .series) (r .room)) (ap (λ (x : Step). x .answer) s) (r .says)) (w .ensures)));
-        later = omega (arith, r .later, p .later);
-        within = r .within;
-        ready = record { good = stays-good (l .book) (event o) _ (good o) s; waiting = w .ensures .room; room = omega (arith, k, p .ready .room) };
-      },
+    let n = c .before .before in
+    let t = c .enum-told2 .given .0 .0 in
+    let told = c .enum-told2 .given .1 in
+    let b = l n .loop .book in
+    let held = l n .loop .held in
+    let e =
+    traded-apart b held (series-at (o n)) (recorded n .next-record .result) (l n .loop .inv .1) (l n .loop .inv .2) (row (o n) .room) (event (o n))
+    (row (o n) .series) (recorded n .next-record .ensures) t (sym told ∙ effect-is (known n))
+    (moved n .move-positions .ensures ∙ ap₂ positionsBy told (ap (λ (s : Series). s .positions) (sym (its-series (o n)))))
+    (entered n .entry .ensures ∙ ap (λ (f : Effect). recordBy f (tradeAt b (recorded n .next-record .result))) told)
+    (counted n .counted .ensures ∙ ap (λ (f : Effect). tradesBy f (b .trades)) told)
+    in (
+      omega (arith, put n .put-answer .kept .0, l n .loop .inv .0),
+      l n .loop .inv .1,
+      length-set held (series-at (o n)) _ ∙ l n .loop .inv .2,
+      passed n _ e,
     )
 
--- ---- all of it
+-- where another event than a trade has changed its series
+abbrev asked-at : tie.After-mark2 Inv-loop μ-loop → tie.After-slice-known2 Inv-loop μ-loop
+asked-at c = c .before .before .before .before .before .before .before .before
+
+mul-asked : tie.Need-mul-asked Inv-loop μ-loop
+mul-asked c = omega (arith, row (o (c .before)) .room)
+
+element-copy-out-asked : tie.Need-element-copy-out-asked Inv-loop μ-loop
+element-copy-out-asked c = row (o (c .before)) .room
+
+set-request-requires : tie.Need-set-request-requires Inv-loop μ-loop
+set-request-requires c κs = fits (known (c .before .before .before .before))
+
+set-decline-requires : tie.Need-set-decline-requires Inv-loop μ-loop
+set-decline-requires c κs = fits (known (c .before .before .before .before .before .before))
+
+mark-requires : tie.Need-mark-requires Inv-loop μ-loop
+mark-requires c κs = search needs
+
+mul-t35 : tie.Need-mul-t35 Inv-loop μ-loop
+mul-t35 c = omega (arith, row (o (asked-at c)) .room)
+
+element-set-from-book : tie.Need-element-set-from-book Inv-loop μ-loop
+element-set-from-book c = row (o (asked-at c)) .room
+
+loop-less-2 : tie.Need-loop-less-2 Inv-loop μ-loop
+loop-less-2 c = let r = row (o (asked-at c)) in omega (arith, r .later, r .within)
+
+loop-again-2 : tie.Need-loop-again-2 Inv-loop μ-loop
+loop-again-2 c =
+    let n = asked-at c in
+    let b = l n .loop .book in
+    let held = l n .loop .held in
+    let s = sym (its-series (o n)) in
+    let e =
+    stored-apart b held (series-at (o n)) (recorded n .next-record .result) (l n .loop .inv .1) (l n .loop .inv .2) (row (o n) .room) (event (o n))
+    (row (o n) .series) (recorded n .next-record .ensures) (known n .effect .result) (effect-is (known n))
+    (record {
+      answer = count n .before .answer .ensures;
+      moved = moved n .move-positions .ensures ∙ ap (λ (x : Series). positionsBy (known n .effect .result) (x .positions)) s;
+      requested = c .before .before .before .set-request .ensures ∙ ap (λ (x : Series). requestsBy (known n .effect .result) (x .requests)) s;
+      declining = c .before .set-decline .ensures ∙ ap (λ (x : Series). declinesBy (known n .effect .result) (x .declined)) s;
+      mark = c .mark2 .ensures ∙ ap (λ (x : Series). markBy (known n .effect .result) (x .mark)) s;
+      recorded = entered n .entry .ensures;
+      counted = counted n .counted .ensures;
+    })
+    in (
+      omega (arith, put n .put-answer .kept .0, l n .loop .inv .0),
+      length-set (b .series) (series-at (o n)) _ ∙ l n .loop .inv .1,
+      length-set held (series-at (o n)) _ ∙ l n .loop .inv .2,
+      passed n _ e,
+    )
+
 pub series-rows-spec : {M : Type 1} → statement M
 series-rows-spec =
     tie.close
     (tie.spec
     Inv-loop
     μ-loop
+    taken-out-requires
     loop-holds
     series-row-requires
     enum-known-series
     enum-told
+    put-back-requires
     up-to-requires
     same-length
     returns
     mul-s
     element-copy-out-s
+    mul-h
+    array-copy-out-h
     effect-requires
     move-positions-requires
-    set-request-requires
-    set-decline-requires
-    mark-requires
-    mul-t27
-    element-set-from-book
+    mul-held
+    array-set-from-held
     next-record-requires
     mul-standing
     element-copy-out-standing
@@ -236,5 +363,15 @@ series-rows-spec =
     answer-requires
     wrapping-add-u64-requires
     put-answer-requires
+    enum-told-2
     loop-less
-    loop-again)
+    loop-again
+    mul-asked
+    element-copy-out-asked
+    set-request-requires
+    set-decline-requires
+    mark-requires
+    mul-t35
+    element-set-from-book
+    loop-less-2
+    loop-again-2)
