@@ -88,6 +88,15 @@ module _ {A : Type 0} where
       not : (k : ℕ) → i + 1 ≤ k → k ≡ i → ⊥
       not k le q = omega arith
 
+  -- a place that f leaves as it was may be passed over
+  pub updated-skip : {n i : ℕ} {l m : List A} {d : A} {f : ℕ → A} → Updated n i l m d f → getD m i d ≡ f i → Updated n (i + 1) l m d f
+  updated-skip {n} {i} {l} {m} {d} {f} h e =
+      record { len = h .len; done = λ k below. by k below (ℕ-discrete k i); left = λ k le. h .left k (omega arith) }
+    where
+      by : (k : ℕ) → k < i + 1 → Dec (k ≡ i) → getD l k d ≡ f k
+      by k below (yes q) = rw q (h .left i (omega arith) ∙ e)
+      by k below (no q) = h .done k (omega arith)
+
   -- the loop may stop at i where f leaves the rest as it was
   pub updated-rest : {n i : ℕ} {l m : List A} {d : A} {f : ℕ → A} → Updated n i l m d f
       → ((k : ℕ) → i ≤ k → k < n → getD m k d ≡ f k) → l ≡ table n f

@@ -39,7 +39,8 @@ fn short_by_place(positions: [i32; PLACES]) -> [u32; PLACES]
     out
 }
 
-// Each writer's share of `exercised` contracts, where the writers are short `interest` in all.
+// Each writer's share of `exercised` contracts, where the writers are short `interest` in all. Who is short of nothing has 0 without a
+// division.
 fn shares(exercised: u64, interest: u64, shorts: [u32; PLACES]) -> Shares
     requires { ⌜ (0 < interest) × (exercised ≤ interest) × (interest < 2 ^ 32) ⌝ }
     ensures { λ r. ⌜ r ≡ record { whole = table places (wholePart exercised interest (amount shorts)); remainder = table places (remainder exercised interest (amount shorts)) } ⌝ }
@@ -48,9 +49,11 @@ fn shares(exercised: u64, interest: u64, shorts: [u32; PLACES]) -> Shares
     let mut rest = [0u32; PLACES];
     let mut place: usize = 0;
     while place < PLACES {
-        let product = exercised * wide(shorts[place]);
-        whole[place] = (product / interest) as u32;
-        rest[place] = (product % interest) as u32;
+        if shorts[place] != 0 {
+            let product = exercised * wide(shorts[place]);
+            whole[place] = (product / interest) as u32;
+            rest[place] = (product % interest) as u32;
+        }
         place += 1;
     }
     Shares {
