@@ -1,5 +1,5 @@
 -- A place that no event names stays empty; so after events that name no section but 0 all of section 1 is empty.
-use mathlib.Core.Path.{_≡_, refl, sym, _∙_}
+use mathlib.Core.Path.{_≡_, refl, _∙_}
 use mathlib.Core.Logic.{_≢_}
 use mathlib.Core.Bool.{true, false}
 use mathlib.Core.List as list
@@ -11,10 +11,10 @@ use lib.ListN.{getD, set, getD-replicate}
 use lib.Seq.{getD-set-other}
 use Rattle.integer.specs.Bounds.{Within}
 use Rattle.integer.specs.Table.{at}
-use Rattle.integer.proofs.Bounds.{within-pos, within-add}
+use Rattle.integer.proofs.Bounds.{within-pos}
 use Rattle.integer.proofs.Sum.{at-zeros}
 use Rattle.integer.proofs.Table.{getD-table}
-use Rattle.places.specs.Places.{places, sections, placeIn}
+use Rattle.places.specs.Places.{places, placeIn}
 use Rattle.places.proofs.Places.{same-section, place-within}
 use Rattle.terms.specs.Bounds.{accounts, seriesRoom}
 use Rattle.series.specs.Changes.{unmarked, closing, newFutures, settled}

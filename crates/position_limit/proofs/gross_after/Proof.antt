@@ -10,7 +10,6 @@ use mir.Syntax.{w32, w64}
 use mir.Val.{toZ, ofZ}
 use Rattle.choice.specs.Choice.{choose}
 use Rattle.integer.specs.Bounds.{Within}
-use Rattle.integer.proofs.Bounds.{within-add}
 use Rattle.integer.proofs.Machine.{Reads, same, any, plus, local, fits}
 use Rattle.integer.specs.Sum.{sumℕ}
 use Rattle.integer.proofs.NatSum.{sumℕ-zero, sumℕ-next}

@@ -1,7 +1,6 @@
 -- `position_limit::limit` meets its contract: the tests are those of the rule, in its order.
 use borrow.Author.Needs.{needs}
 use mathlib.Core.Path.{_≡_, refl, sym, subst, _∙_}
-use Prim.Native.Nat.{ℕ}
 use lib.IntN.{pos, negℤ, +ℤ-idl}
 use mir.Syntax.{w64}
 use Rattle.choice.proofs.Chain.{hit, past}

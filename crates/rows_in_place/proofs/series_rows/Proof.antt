@@ -22,7 +22,6 @@ use Rattle.book.specs.Step.{stepOf}
 use Rattle.book.specs.declared.state.Book.{Book}
 use Rattle.book.specs.declared.state.Effect.{Effect}
 use Rattle.book.specs.declared.state.Event.{Event}
-use Rattle.book.specs.declared.state.Held.{Held}
 use Rattle.book.proofs.Apart.{rejoined-taken, series-rejoined, stored-apart, traded-apart}
 use Rattle.book.proofs.Effects.{next-record-within, effect-fits, effectAt, answer-by-effect}
 use Rattle.book.proofs.Keeps.{good-step}
