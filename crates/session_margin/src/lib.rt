@@ -1,6 +1,5 @@
-// The variation margin of a session, by series and account.
+// The variation margin of a series in a session, account by account.
 use amounts::revalue;
-use blotter::traded;
 use book::state::Book;
 use series::state::Series;
 use terms::bounds::ACCOUNTS;
@@ -8,23 +7,19 @@ use terms::bounds::SERIES;
 use valuation::value;
 ghost use mathlib.Core.Path.{_≡_};
 ghost use mathlib.Core.Bool.{not};
-ghost use Prim.Native.Nat.{ℕ, _<_};
-ghost use lib.IntN.{pos};
-ghost use lib.ListN.{getD};
 ghost use Rattle.choice.specs.Choice.{choose};
 ghost use Rattle.integer.specs.Table.{at, table};
-ghost use Rattle.margin.specs.BySeries.{bySeries, inSeries};
+ghost use Rattle.margin.specs.BySeries.{inSeries};
 ghost use Rattle.margin.specs.Margin.{CostsIn, marginOf};
 ghost use Rattle.places.specs.Places.{ofAccount, Limited};
 ghost use Rattle.terms.specs.Bounds.{seriesRoom, maxPosition};
 ghost use Rattle.series.specs.Good.{GoodSeries};
 ghost use Rattle.series.specs.Series.{expired, positionOf};
 ghost use Rattle.book.specs.Good.{Good};
-ghost use Rattle.book.specs.Sessions.{marginIn};
-ghost use Rattle.book.specs.State.{noSeries, seriesAt, live};
+ghost use Rattle.book.specs.State.{seriesAt};
 
 // The coefficient of each series' mark.
-fn coefficients(book: Book) -> [u32; SERIES]
+pub fn coefficients(book: Book) -> [u32; SERIES]
     requires { ⌜ Good book ⌝ }
     ensures { λ r. ⌜ r ≡ table seriesRoom (λ i. seriesAt book i .mark .coefficient) ⌝ }
 {
@@ -39,7 +34,7 @@ fn coefficients(book: Book) -> [u32; SERIES]
 }
 
 // The variation margin of a live series in the place of what its trades cost, where `next` is the series after the session.
-fn revalue_series(
+pub fn revalue_series(
     amounts: &mut [i64; SERIES * ACCOUNTS],
     i: usize,
     s: Series,
@@ -58,22 +53,4 @@ fn revalue_series(
     let positions = next.positions;
     let opening = s.opening;
     revalue(amounts, i, positions, opening, price_value, evening_value);
-}
-
-// The variation margin of each live series and account, where `after` are the series after the session: what positions gain, less what
-// the day's trades cost.
-pub fn variation_margin(book: Book, after: [Series; SERIES]) -> [i64; SERIES * ACCOUNTS]
-    requires { ⌜ (Good book) × ((i : ℕ) → i < seriesRoom → Limited maxPosition (getD after i noSeries .positions)) ⌝ }
-    ensures { λ r. ⌜ r ≡ bySeries (λ i a. choose (live book i) (marginIn book i a (seriesAt book i .mark .option) (positionOf (getD after i noSeries) a)) (pos 0)) ⌝ }
-{
-    let blotter = book.blotter;
-    let mut amounts = traded(blotter, book.trades, coefficients(book));
-    let mut i: usize = 0;
-    while i < book.listed {
-        let s = book.series[i];
-        let next = after[i];
-        revalue_series(&mut amounts, i, s, next, book.day);
-        i += 1;
-    }
-    amounts
 }
