@@ -3,49 +3,63 @@ use answers::is_session;
 use book::state::Book;
 use book::state::Event;
 use book::state::Found;
-use book::state::Step;
 use rows::types::Row;
-use series::state::Series;
 use stream::types::Replay;
-use terms::bounds::SERIES;
+ghost use mathlib.Core.Path.{_≡_};
+ghost use mathlib.Core.Bool.{false};
 ghost use Prim.Native.Nat.{_+_, _≤_};
 ghost use lib.ListN.{length};
-ghost use Rattle.choice.specs.Choice.{choose};
-ghost use Rattle.decimal.specs.Put.{Put};
 ghost use Rattle.book.specs.Good.{Good};
-ghost use Rattle.report.specs.Report.{isSession, answerOf, reportOf, rowRoom};
+ghost use Rattle.book.specs.declared.state.Event.the-variants.{Intraday, Evening};
+ghost use Rattle.report.specs.Report.{isSession, rowRoom};
 ghost use Rattle.calendar.specs.Days.{datesOf};
 ghost use Rattle.rows.specs.Row.{rowOf};
 ghost use Rattle.stream.specs.Parts.{EventPut, RowPut};
 
-// The lines of an event: all of its report where it is a session, and its answer where it is not.
-fn event_lines(
-    out: &mut [u8],
-    at: usize,
-    row: u64,
-    event: Event,
-    before: [Series; SERIES],
-    step: Step,
-) -> usize
-    requires { ⌜ at + rowRoom ≤ length (now out) ⌝ }
-    ensures { λ r. ⌜ Put (now (out .entry)) at (choose (isSession event) (reportOf row before step) (answerOf row (step .answer))) (now (out .exit)) r ⌝ }
-    ensures { λ r. ⌜ r ≤ at + rowRoom ⌝ }
+// An evening session, and all lines of its report.
+fn evening_row(out: &mut [u8], at: usize, intact: bool, row: u64, book: Book) -> Replay
+    requires { ⌜ (Good book) × (at + rowRoom ≤ length (now out)) ⌝ }
+    ensures { λ r. ⌜ EventPut row book Evening intact (now (out .entry)) at r (now (out .exit)) ⌝ }
 {
-    if is_session(event) {
-        return row_lines::report(out, at, row, before, step);
+    let step = sessions::evening(book);
+    let after = step.book;
+    let before = book.series;
+    let next = row_lines::report(out, at, row, before, step);
+    Replay {
+        book: after,
+        row: row,
+        at: next,
+        intact: intact,
     }
-    let answer = step.answer;
-    row_lines::answered(out, at, row, answer)
 }
 
-// An event: its step, and its lines.
-fn event_row(out: &mut [u8], at: usize, intact: bool, row: u64, book: Book, event: Event) -> Replay
+// An intraday session, the line of its answer and the money of all accounts: no futures arise in it.
+fn intraday_row(out: &mut [u8], at: usize, intact: bool, row: u64, book: Book) -> Replay
     requires { ⌜ (Good book) × (at + rowRoom ≤ length (now out)) ⌝ }
+    ensures { λ r. ⌜ EventPut row book Intraday intact (now (out .entry)) at r (now (out .exit)) ⌝ }
+{
+    let step = sessions::intraday(book);
+    let answer = step.answer;
+    let paid = step.money;
+    let first = row_lines::answered(out, at, row, answer);
+    let end = row_lines::money(out, first, row, paid);
+    let after = step.book;
+    Replay {
+        book: after,
+        row: row,
+        at: end,
+        intact: intact,
+    }
+}
+
+// An event that is no session: its step, and the line of its answer alone.
+fn quiet_row(out: &mut [u8], at: usize, intact: bool, row: u64, book: Book, event: Event) -> Replay
+    requires { ⌜ (Good book) × (at + rowRoom ≤ length (now out)) × (isSession event ≡ false) ⌝ }
     ensures { λ r. ⌜ EventPut row book event intact (now (out .entry)) at r (now (out .exit)) ⌝ }
 {
-    let before = book.series;
     let step = clearing::step(book, event);
-    let next = event_lines(out, at, row, event, before, step);
+    let answer = step.answer;
+    let next = row_lines::answered(out, at, row, answer);
     let after = step.book;
     Replay {
         book: after,
@@ -53,6 +67,20 @@ fn event_row(out: &mut [u8], at: usize, intact: bool, row: u64, book: Book, even
         at: next,
         intact: intact,
     }
+}
+
+// An event: its step, and its lines.
+fn event_row(out: &mut [u8], at: usize, intact: bool, row: u64, book: Book, event: Event) -> Replay
+    requires { ⌜ (Good book) × (at + rowRoom ≤ length (now out)) ⌝ }
+    ensures { λ r. ⌜ EventPut row book event intact (now (out .entry)) at r (now (out .exit)) ⌝ }
+{
+    if is_session(event) {
+        if let Event::Evening = event {
+            return evening_row(out, at, intact, row, book);
+        }
+        return intraday_row(out, at, intact, row, book);
+    }
+    quiet_row(out, at, intact, row, book, event)
 }
 
 // One row: its event is carried out or refused, and its lines are put behind what waits.
