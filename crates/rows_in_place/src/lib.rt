@@ -1,31 +1,26 @@
-// Rows that are events on one series: they are carried out in the book where it stands.
+// The rows of a buffer: events on one series are carried out in the book where it stands.
 use book::state::Effect;
 use book::state::Today;
+use buffers::flushed;
 use buffers::put_answer;
 use buffers::up_to;
 use positions_apart::put_back;
 use positions_apart::taken_out;
+use row_step::answer_row;
+use rows::types::End;
 use stream::types::Passed;
 use stream::types::Replay;
 use stream::types::SeriesRow;
-ghost use Prim.Native.Nat.{_≤_};
-ghost use lib.ListN.{length};
 ghost use Rattle.calendar.specs.Days.{datesOf};
 ghost use Rattle.stream.specs.Output.{Ready};
-ghost use Rattle.stream.specs.Parts.{FirstPassed};
+ghost use Rattle.stream.specs.Parts.{AllPassed};
 
-// From a place of a buffer on, the rows that are events on one series, up to the first other row. The book stays where it is: each
-// row changes one series of it, and the blotter. The positions stand apart meanwhile, so that a trade, which changes nothing else of a
-// series, does not copy the rest of it.
-pub fn series_rows(
-    calendar: &[u64],
-    input: &[u8],
-    start: usize,
-    out: &mut [u8],
-    replay: Replay,
-) -> Passed
-    requires { ⌜ (Ready replay (now out)) × (start ≤ length (now input)) ⌝ }
-    ensures { λ r. ⌜ FirstPassed (datesOf (now (calendar .entry))) (now (input .entry)) start replay (now (out .entry)) r (now (out .exit)) ⌝ }
+// The rows of a buffer that end in it. The book stays where it is for all of them: an event on one series changes that series of it,
+// and the blotter. The positions stand apart meanwhile, so that a trade, which changes nothing else of a series, does not copy the
+// rest of it. For any other row they are put back, and taken out of the book after it.
+pub fn whole_rows(calendar: &[u64], input: &[u8], out: &mut [u8], replay: Replay) -> Passed
+    requires { ⌜ Ready replay (now out) ⌝ }
+    ensures { λ r. ⌜ AllPassed (datesOf (now (calendar .entry))) (now (input .entry)) replay (now (out .entry)) r (now (out .exit)) ⌝ }
 {
     let mut book = replay.book;
     let all = book.series;
@@ -33,7 +28,7 @@ pub fn series_rows(
     let mut row = replay.row;
     let mut at = replay.at;
     let mut intact = replay.intact;
-    let mut from = start;
+    let mut from = 0;
     loop {
         let SeriesRow::OnSeries {
             series,
@@ -44,7 +39,26 @@ pub fn series_rows(
             let standing = book.series;
             let rejoined = put_back(standing, held);
             book.series = rejoined;
-            return up_to(book, row, at, intact, from);
+            let End::At(end) = row_cut::row_end(input, from) else {
+                return up_to(book, row, at, intact, from);
+            };
+            let now = Replay {
+                book: book,
+                row: row,
+                at: at,
+                intact: intact,
+            };
+            let next = answer_row(calendar, &input[from..end], out, now);
+            let still = flushed(out, next.at, next.intact);
+            let after = next.book;
+            book = after;
+            let every = book.series;
+            held = taken_out(every);
+            row = next.row;
+            at = still.at;
+            intact = still.intact;
+            from = end + 2;
+            continue;
         };
         let s = book.series[series];
         let listing = s.listing;
