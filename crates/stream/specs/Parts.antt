@@ -14,7 +14,7 @@ use Rattle.report.specs.Report.{reportOf, rowRoom}
 use Rattle.rows.specs.Cut.{cut}
 use Rattle.rows.specs.declared.types.Row.{Row}
 use Rattle.stream.specs.Rows.{readRows, bookBy, linesBy}
-use Rattle.stream.specs.Output.{waitingRoom, waitsOn, letGo, Intact, Ready, Answered, AnsweredUpTo}
+use Rattle.stream.specs.Output.{waitingRoom, waitsOn, letGo, Intact, Ready, Answered}
 use Rattle.stream.specs.declared.types.Passed.{Passed}
 use Rattle.stream.specs.declared.types.Replay.{Replay}
 use Rattle.stream.specs.declared.types.Waiting.{Waiting}
@@ -42,13 +42,6 @@ pub record RowPut (from : Replay) (before : List ℕ) (row : Row) (to : Replay) 
   pub lines : Put before (from .at) (linesBy (to .row) (from .book) row) after (to .at)
   pub room : to .at ≤ from .at + rowRoom
   pub intact : to .intact ≡ from .intact
-
--- From a place of a buffer of input on, the first rows are answered, up to the place where the others start.
-pub record FirstPassed (calendar : List Date) (input : List ℕ) (start : ℕ) (from : Replay) (before : List ℕ) (to : Passed) (after : List ℕ) : Type 0 where
-  pub answered : AnsweredUpTo calendar from before (cut (drop start input)) (to .replay) after (cut (drop (to .from) input))
-  pub later : start ≤ to .from
-  pub within : to .from ≤ length input
-  pub ready : Ready (to .replay) after
 
 -- All rows that end in a buffer of input are answered, up to the place where the unfinished one starts.
 pub record AllPassed (calendar : List Date) (input : List ℕ) (from : Replay) (before : List ℕ) (to : Passed) (after : List ℕ) : Type 0 where
