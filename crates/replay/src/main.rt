@@ -2,11 +2,10 @@
 // calendar.txt.
 use buffer_rows::pass;
 use buffers::fill;
-use buffers::flushed;
 use buffers::without_rows;
 use calendar::types::CalendarRead;
 use calendar::types::Reading;
-use row_step::answer_row;
+use row_step::pass_row;
 use stream::types::Input;
 use stream::types::Replay;
 use stream::types::Run;
@@ -32,10 +31,16 @@ fn last_row(calendar: &[u64], buf: &[u8], out: &mut [u8], replay: Replay, have: 
             going: false,
         };
     }
-    let mut next = answer_row(calendar, &buf[..have], out, replay);
-    let waiting = flushed(out, next.at, next.intact);
-    next.at = waiting.at;
-    next.intact = waiting.intact;
+    let book = replay.book;
+    let next = pass_row(
+        calendar,
+        &buf[..have],
+        out,
+        book,
+        replay.row,
+        replay.at,
+        replay.intact,
+    );
     Run {
         replay: next,
         have: 0,

@@ -14,7 +14,8 @@ ghost use Rattle.book.specs.declared.state.Event.the-variants.{Intraday, Evenin
 ghost use Rattle.report.specs.Report.{isSession, rowRoom};
 ghost use Rattle.calendar.specs.Days.{datesOf};
 ghost use Rattle.rows.specs.Row.{rowOf};
-ghost use Rattle.stream.specs.Parts.{EventPut, RowPut};
+ghost use Rattle.stream.specs.Output.{Ready};
+ghost use Rattle.stream.specs.Parts.{EventPut, RowPut, RowPassed};
 
 // An evening session, and all lines of its report.
 fn evening_row(out: &mut [u8], at: usize, intact: bool, row: u64, book: Book) -> Replay
@@ -84,14 +85,19 @@ fn event_row(out: &mut [u8], at: usize, intact: bool, row: u64, book: Book, even
 }
 
 // One row: its event is carried out or refused, and its lines are put behind what waits.
-pub fn answer_row(calendar: &[u64], bytes: &[u8], out: &mut [u8], replay: Replay) -> Replay
-    requires { ⌜ (Good (replay .book)) × (replay .at + rowRoom ≤ length (now out)) ⌝ }
-    ensures { λ r. ⌜ RowPut replay (now (out .entry)) (rowOf (datesOf (now (calendar .entry))) (now (bytes .entry))) r (now (out .exit)) ⌝ }
+fn answer_row(
+    calendar: &[u64],
+    bytes: &[u8],
+    out: &mut [u8],
+    book: Book,
+    last: u64,
+    at: usize,
+    intact: bool,
+) -> Replay
+    requires { ⌜ (Good book) × (at + rowRoom ≤ length (now out)) ⌝ }
+    ensures { λ r. ⌜ RowPut (record { book = book; row = last; at = at; intact = intact }) (now (out .entry)) (rowOf (datesOf (now (calendar .entry))) (now (bytes .entry))) r (now (out .exit)) ⌝ }
 {
-    let row = std::num::wrapping_add_u64(replay.row, 1);
-    let book = replay.book;
-    let at = replay.at;
-    let intact = replay.intact;
+    let row = std::num::wrapping_add_u64(last, 1);
     match row_reader::read_row(calendar, bytes) {
         Row::Refused(why) => {
             let next = lines::answer(out, at, row, Found::Nothing, answers::number::of_row(why));
@@ -104,4 +110,25 @@ pub fn answer_row(calendar: &[u64], bytes: &[u8], out: &mut [u8], replay: Replay
         }
         Row::Accepted(event) => event_row(out, at, intact, row, book, event),
     }
+}
+
+// The row after row number `last`, where `at` bytes of output wait: it is answered, and where what waits then leaves no room for the
+// lines of one more row it is let go.
+pub fn pass_row(
+    calendar: &[u64],
+    bytes: &[u8],
+    out: &mut [u8],
+    book: Book,
+    last: u64,
+    at: usize,
+    intact: bool,
+) -> Replay
+    requires { ⌜ Ready (record { book = book; row = last; at = at; intact = intact }) (now out) ⌝ }
+    ensures { λ r. ⌜ RowPassed (record { book = book; row = last; at = at; intact = intact }) (now (out .entry)) (rowOf (datesOf (now (calendar .entry))) (now (bytes .entry))) r (now (out .exit)) ⌝ }
+{
+    let mut next = answer_row(calendar, bytes, out, book, last, at, intact);
+    let waiting = buffers::flushed(out, next.at, next.intact);
+    next.at = waiting.at;
+    next.intact = waiting.intact;
+    next
 }

@@ -1,12 +1,11 @@
 // The rows of a buffer: events on one series are carried out in the book where it stands.
 use book::state::Effect;
 use book::state::Today;
-use buffers::flushed;
 use buffers::put_answer;
 use buffers::up_to;
 use positions_apart::put_back;
 use positions_apart::taken_out;
-use row_step::answer_row;
+use row_step::pass_row;
 use rows::types::End;
 use stream::types::Passed;
 use stream::types::Replay;
@@ -42,21 +41,14 @@ pub fn whole_rows(calendar: &[u64], input: &[u8], out: &mut [u8], replay: Replay
             let End::At(end) = row_cut::row_end(input, from) else {
                 return up_to(book, row, at, intact, from);
             };
-            let now = Replay {
-                book: book,
-                row: row,
-                at: at,
-                intact: intact,
-            };
-            let next = answer_row(calendar, &input[from..end], out, now);
-            let still = flushed(out, next.at, next.intact);
+            let next = pass_row(calendar, &input[from..end], out, book, row, at, intact);
             let after = next.book;
             book = after;
             let every = book.series;
             held = taken_out(every);
             row = next.row;
-            at = still.at;
-            intact = still.intact;
+            at = next.at;
+            intact = next.intact;
             from = end + 2;
             continue;
         };

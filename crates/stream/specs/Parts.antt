@@ -1,7 +1,7 @@
 -- What the parts of a replay give: the contracts of the functions below the program.
 use mathlib.Core.Path.{_≡_}
 use mathlib.Core.Bool.{Bool}
-use mathlib.Core.List.{List, []}
+use mathlib.Core.List.{List, [], _∷_}
 use Prim.Native.Nat.{ℕ, _+_, _%_, _^_, _≤_}
 use lib.ListN.{length, take, drop}
 use Rattle.book.specs.Good.{Good}
@@ -42,6 +42,11 @@ pub record RowPut (from : Replay) (before : List ℕ) (row : Row) (to : Replay) 
   pub lines : Put before (from .at) (linesBy (to .row) (from .book) row) after (to .at)
   pub room : to .at ≤ from .at + rowRoom
   pub intact : to .intact ≡ from .intact
+
+-- A row is answered, and what waits leaves room for the lines of one more: the replay is ready for it.
+pub record RowPassed (from : Replay) (before : List ℕ) (row : Row) (to : Replay) (after : List ℕ) : Type 0 where
+  pub answered : Answered from before (row ∷ []) to after
+  pub ready : Ready to after
 
 -- All rows that end in a buffer of input are answered, up to the place where the unfinished one starts.
 pub record AllPassed (calendar : List Date) (input : List ℕ) (from : Replay) (before : List ℕ) (to : Passed) (after : List ℕ) : Type 0 where

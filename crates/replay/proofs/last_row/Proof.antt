@@ -4,7 +4,7 @@ use native.Mathlib.Omega.{arith}
 use lib.ListN.{take}
 use lib.Seq.{length-take-le}
 use Rattle.stream.specs.Input.{rowsBy, keptBy, goesOn}
-use Rattle.stream.proofs.Lines.{row-answered, last-none, last-some}
+use Rattle.stream.proofs.Lines.{last-none, last-some}
 use borrow.Author.Needs.{needs}
 use Rattle.replay.proofs.last_row.Statement.{statement}
 use Rattle.replay.proofs.last_row.Tie as tie
@@ -22,14 +22,11 @@ returns c =
       ready = s .pre .0;
     }
 
-slice-aggregate-answer-row : tie.Need-slice-aggregate-answer-row
-slice-aggregate-answer-row c = sym (length-take-le _ _ (c .before .before .before .before .before .pre .1))
+slice-aggregate-pass-row : tie.Need-slice-aggregate-pass-row
+slice-aggregate-pass-row c = sym (length-take-le _ _ (c .before .before .before .before .before .before .pre .1))
 
-answer-row-requires : tie.Need-answer-row-requires
-answer-row-requires c κs = search needs
-
-flushed-requires : tie.Need-flushed-requires
-flushed-requires c κs = search needs
+pass-row-requires : tie.Need-pass-row-requires
+pass-row-requires c κs = search needs
 
 same-length : tie.Need-same-length
 same-length c = search needs
@@ -37,18 +34,16 @@ same-length c = search needs
 returns-2 : tie.Need-returns-2
 unfolding rowsBy keptBy goesOn
 returns-2 c =
-    let s = c .before .before .before .before .before .before .before .before .before .before .before .before .before in
-    let a = c .before .before .before .before .before .before .answer-row in
-    let f = c .before .before .flushed in
+    let s = c .before .before .before .before .before .before .before .before .before .before in
+    let p = c .before .before .pass-row .ensures in
     let long = length-take-le (s .args .have) (s .args .buf .now) (s .pre .1) in
     record {
-      answered = last-some _ (take (s .args .have) (s .args .buf .now)) (omega (arith, long, c .before .before .before .before .before .before .before .before .before .if1 .left))
-          (row-answered (s .pre .0) (a .ensures) (f .ensures));
+      answered = last-some _ (take (s .args .have) (s .args .buf .now)) (omega (arith, long, c .before .before .before .before .before .before .if1 .left)) (p .answered);
       keeps = refl;
       few = omega arith;
       within = omega arith;
       going = refl;
-      ready = record { good = a .ensures .good; waiting = omega (arith, f .ensures .room); room = omega (arith, a .kept .1, f .kept .0, s .pre .0 .room) };
+      ready = p .ready;
     }
 
 pub last-row-spec : {M : Type 1} → statement M
@@ -56,8 +51,7 @@ last-row-spec =
     tie.close
     (tie.spec
     returns
-    slice-aggregate-answer-row
-    answer-row-requires
-    flushed-requires
+    slice-aggregate-pass-row
+    pass-row-requires
     same-length
     returns-2)

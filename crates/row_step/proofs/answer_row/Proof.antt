@@ -34,9 +34,9 @@ same-length c = search needs
 
 returns : tie.Need-returns
 returns c =
-    let s = c .before .before .before .before .before .before .before .before .before .before .before .before .before .before in
-    let b = s .args .replay .book in
-    let w = c .before .before .before .before .before .before .before .before .before .before .wrapping-add-u64 in
+    let s = c .before .before .before .before .before .before .before .before .before .before .before .before .before in
+    let b = s .args .book in
+    let w = c .before .before .before .before .before .before .before .before .before .wrapping-add-u64 in
     let q = sym (c .before .before .before .before .before .before .before .before .read-row .ensures) ∙ c .before .before .before .before .before .before .why .given .1 in
     let p = c .before .before .answer .ensures in
     record {
@@ -54,7 +54,7 @@ same-length-2 c = search needs
 
 returns-2 : tie.Need-returns-2
 returns-2 c =
-    let w = c .before .before .before .before .before .before .before .before .before .wrapping-add-u64 in
+    let w = c .before .before .before .before .before .before .before .before .wrapping-add-u64 in
     let q = sym (c .before .before .before .before .before .before .before .read-row .ensures) ∙ c .before .before .before .before .before .event .given .1 in
     row-put (w .ensures) q (c .before .before .event-row .ensures)
 

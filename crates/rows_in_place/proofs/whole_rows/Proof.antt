@@ -31,7 +31,7 @@ use Rattle.rows.proofs.Ends.{row-fits, no-row}
 use Rattle.stream.specs.Output.{AnsweredUpTo, Ready}
 use Rattle.stream.specs.declared.types.Replay.{Replay}
 use Rattle.stream.proofs.Books.{book-accepted, series-line}
-use Rattle.stream.proofs.Lines.{up-to-none, up-to-next, lines-answered, row-answered, next-answered, all-answered}
+use Rattle.stream.proofs.Lines.{up-to-none, up-to-next, lines-answered, next-answered, all-answered}
 use Rattle.stream.proofs.NextRow.{Found, found}
 use Rattle.rows_in_place.proofs.whole_rows.Statement.{statement}
 use Rattle.rows_in_place.proofs.whole_rows.Tie as tie
@@ -134,7 +134,7 @@ module _ (c : tie.After-known-told2 Inv-loop μ-loop) where
 
 -- from the end of its turn
 abbrev other-at : tie.After-taken-out2 Inv-loop μ-loop → tie.After-known-told2 Inv-loop μ-loop
-other-at c = c .before .before .before .before .before .before .before .before .before .before .before .before
+other-at c = c .before .before .before .before .before .before .before .before
 
 -- ---- the loop begins, and ends where no more row does
 taken-out-requires : tie.Need-taken-out-requires Inv-loop μ-loop
@@ -195,25 +195,17 @@ returns c =
     })
 
 -- ---- the other row is answered, and the positions are taken out of the book after it
-sub-answer-row : tie.Need-sub-answer-row Inv-loop μ-loop
-sub-answer-row c = ends c .0
+sub-pass-row : tie.Need-sub-pass-row Inv-loop μ-loop
+sub-pass-row c = ends c .0
 
-part-answer-row-start : tie.Need-part-answer-row-start Inv-loop μ-loop
-part-answer-row-start c = ends c .0
+part-pass-row-start : tie.Need-part-pass-row-start Inv-loop μ-loop
+part-pass-row-start c = ends c .0
 
-part-answer-row-end : tie.Need-part-answer-row-end Inv-loop μ-loop
-part-answer-row-end c = omega (arith, ends c .1)
+part-pass-row-end : tie.Need-part-pass-row-end Inv-loop μ-loop
+part-pass-row-end c = omega (arith, ends c .1)
 
-answer-row-requires : tie.Need-answer-row-requires Inv-loop μ-loop
-answer-row-requires c κs =
-    let r = whole (joined (c .before .before)) .ready in
-    (r .good, omega (arith, r .waiting, r .room))
-
-flushed-requires : tie.Need-flushed-requires Inv-loop μ-loop
-flushed-requires c κs =
-    let r = whole (joined (c .before .before .before .before .before .before)) .ready in
-    let a = c .before .before .before .answer-row in
-    omega (arith, a .ensures .room, a .kept .1, r .waiting, r .room)
+pass-row-requires : tie.Need-pass-row-requires Inv-loop μ-loop
+pass-row-requires c κs = whole (joined (c .before .before)) .ready
 
 taken-out-requires-2 : tie.Need-taken-out-requires-2 Inv-loop μ-loop
 taken-out-requires-2 c κs = search needs
@@ -231,19 +223,18 @@ loop-again c =
     let k = other-at c in
     let j = joined k in
     let p = whole j in
-    let a = c .before .before .before .before .before .before .before .before .before .answer-row in
-    let f = c .before .before .before .before .before .flushed in
-    let long = a .ensures .good .series-long in
+    let a = c .before .before .before .before .before .pass-row in
+    let long = a .ensures .ready .good .series-long in
     let same : rejoined (a .result .book) (c .taken-out2 .result) ≡ a .result .book = rw (c .taken-out2 .ensures) (rejoined-taken (a .result .book) long) in (
-      omega (arith, a .kept .1, f .kept .0, turn j .loop .inv .0),
+      omega (arith, a .kept .1, turn j .loop .inv .0),
       long,
       rw (c .taken-out2 .ensures) (length-table seriesRoom _),
       rw same
           (record {
             answered = next-answered (input (turn j)) (turn j .loop .from) (k .before .before .before .row-end .ensures) (p .answered)
-                (k .before .end .given .0 .0) (k .before .end .given .1) (row-answered (p .ready) (a .ensures) (f .ensures));
+                (k .before .end .given .0 .0) (k .before .end .given .1) (a .ensures .answered);
             within = ends k .1;
-            ready = record { good = a .ensures .good; waiting = f .ensures .room; room = omega (arith, a .kept .1, f .kept .0, p .ready .room) };
+            ready = a .ensures .ready;
           }),
     )
 
@@ -312,7 +303,7 @@ enum-told-3 : tie.Need-enum-told-3 Inv-loop μ-loop
 enum-told-3 c = search needs
 
 -- ---- the next turn
-module _ (c : tie.After-slice-known4 Inv-loop μ-loop) where
+module _ (c : tie.After-slice-known3 Inv-loop μ-loop) where
   abbrev put : tie.After-put-answer Inv-loop μ-loop
   put = c .before .before
 
@@ -389,7 +380,7 @@ loop-again-2 c =
     )
 
 -- where another event than a trade has changed its series
-abbrev asked-at : tie.After-mark2 Inv-loop μ-loop → tie.After-slice-known4 Inv-loop μ-loop
+abbrev asked-at : tie.After-mark2 Inv-loop μ-loop → tie.After-slice-known3 Inv-loop μ-loop
 asked-at c = c .before .before .before .before .before .before .before .before
 
 mul-asked : tie.Need-mul-asked Inv-loop μ-loop
@@ -407,8 +398,8 @@ set-decline-requires c κs = fits (known (c .before .before .before .before .bef
 mark-requires : tie.Need-mark-requires Inv-loop μ-loop
 mark-requires c κs = search needs
 
-mul-t50 : tie.Need-mul-t50 Inv-loop μ-loop
-mul-t50 c = omega (arith, row (o (asked-at c)) .room)
+mul-t46 : tie.Need-mul-t46 Inv-loop μ-loop
+mul-t46 c = omega (arith, row (o (asked-at c)) .room)
 
 element-set-from-book : tie.Need-element-set-from-book Inv-loop μ-loop
 element-set-from-book c = row (o (asked-at c)) .room
@@ -459,11 +450,10 @@ whole-rows-spec =
     up-to-requires
     same-length
     returns
-    sub-answer-row
-    part-answer-row-start
-    part-answer-row-end
-    answer-row-requires
-    flushed-requires
+    sub-pass-row
+    part-pass-row-start
+    part-pass-row-end
+    pass-row-requires
     taken-out-requires-2
     add-from
     loop-less
@@ -494,7 +484,7 @@ whole-rows-spec =
     set-request-requires
     set-decline-requires
     mark-requires
-    mul-t50
+    mul-t46
     element-set-from-book
     loop-less-3
     loop-again-3)
