@@ -1,17 +1,13 @@
-// What an effect leaves of a series and of the blotter. The arrays are changed in place.
-use book::state::Answer;
+// What an effect leaves of a series. The arrays are changed in place.
 use book::state::Effect;
-use margin::trade::Trade;
 use places::PLACES;
 use requests::change::decline;
 use requests::change::request;
 use series::state::Mark;
-use terms::bounds::BLOTTER;
 use trading::change::trade;
 ghost use mathlib.Core.Path.{_≡_};
-ghost use Prim.Native.Nat.{_≤_};
 ghost use Rattle.integer.specs.Bounds.{Bounded};
-ghost use Rattle.terms.specs.Bounds.{blotterRoom, maxPosition};
+ghost use Rattle.terms.specs.Bounds.{maxPosition};
 ghost use Rattle.book.specs.Effects as rule;
 
 // A trade moves the positions of buyer and seller.
@@ -56,46 +52,5 @@ pub fn mark(earlier: Mark, effect: Effect) -> Mark
     match effect {
         Effect::Marked(m) => m,
         _ => earlier,
-    }
-}
-
-// The place of the blotter's next record, or of its last one where the blotter is full.
-pub fn next_record(trades: usize) -> usize
-    ensures { λ r. ⌜ r ≡ rule.nextRecord trades ⌝ }
-{
-    if trades < BLOTTER {
-        trades
-    } else {
-        BLOTTER - 1
-    }
-}
-
-// That record: a trade joins the blotter.
-pub fn entry(standing: Trade, effect: Effect) -> Trade
-    ensures { λ r. ⌜ r ≡ rule.recordBy effect standing ⌝ }
-{
-    match effect {
-        Effect::Traded(t) => t,
-        _ => standing,
-    }
-}
-
-// How many trades stand today.
-pub fn counted(standing: usize, effect: Effect) -> usize
-    requires { ⌜ standing ≤ blotterRoom ⌝ }
-    ensures { λ r. ⌜ r ≡ rule.tradesBy effect standing ⌝ }
-{
-    match effect {
-        Effect::Traded(_) => standing + 1,
-        _ => standing,
-    }
-}
-
-pub fn answer(effect: Effect) -> Answer
-    ensures { λ r. ⌜ r ≡ rule.answerBy effect ⌝ }
-{
-    match effect {
-        Effect::Refused(why) => Answer::Refused(why),
-        _ => Answer::Done,
     }
 }

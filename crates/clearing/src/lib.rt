@@ -78,13 +78,13 @@ pub fn step(mut book: Book, event: Event) -> Step
     let marked = apply::mark(mark, effect);
     s.mark = marked;
     book.series[i] = s;
-    let n = apply::next_record(book.trades);
+    let n = recording::next_record(book.trades);
     let standing = book.blotter[n];
-    let entry = apply::entry(standing, effect);
+    let entry = recording::entry(standing, effect);
     book.blotter[n] = entry;
-    book.trades = apply::counted(book.trades, effect);
+    book.trades = recording::counted(book.trades, effect);
     Step {
-        answer: apply::answer(effect),
+        answer: recording::answer(effect),
         money: [0i64; ACCOUNTS],
         book: book,
     }

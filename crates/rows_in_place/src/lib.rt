@@ -63,12 +63,12 @@ pub fn whole_rows(calendar: &[u64], input: &[u8], out: &mut [u8], replay: Replay
         let effect = effect::effect(today, listing, &h.positions, event);
         apply::move_positions(&mut h.positions, effect);
         held[series] = h;
-        let n = apply::next_record(book.trades);
+        let n = recording::next_record(book.trades);
         let standing = book.blotter[n];
-        let entry = apply::entry(standing, effect);
+        let entry = recording::entry(standing, effect);
         book.blotter[n] = entry;
-        book.trades = apply::counted(book.trades, effect);
-        let answer = apply::answer(effect);
+        book.trades = recording::counted(book.trades, effect);
+        let answer = recording::answer(effect);
         row = std::num::wrapping_add_u64(row, 1);
         let waiting = put_answer(out, at, row, answer, intact);
         at = waiting.at;

@@ -1,9 +1,9 @@
--- `apply::entry` meets its contract.
+-- `recording::entry` meets its contract.
 use mathlib.Core.Path.{refl}
 use borrow.Author.Needs.{needs}
-use Rattle.apply.proofs.Others.{no-entry}
-use Rattle.apply.proofs.entry.Statement.{statement}
-use Rattle.apply.proofs.entry.Tie as tie
+use Rattle.recording.proofs.Others.{no-entry}
+use Rattle.recording.proofs.entry.Statement.{statement}
+use Rattle.recording.proofs.entry.Tie as tie
 
 enum-known-effect : tie.Need-enum-known-effect
 enum-known-effect c = search needs
