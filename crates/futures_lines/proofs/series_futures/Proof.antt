@@ -1,4 +1,4 @@
--- `row_lines::series_futures` meets its contract: the lines of the accounts passed stand in the buffer.
+-- `futures_lines::series_futures` meets its contract: the lines of the accounts passed stand in the buffer.
 use mathlib.Core.Path.{_≡_, refl}
 use Prim.Native.Nat.{ℕ, _+_, _-_, _*_, _≤_}
 use native.Mathlib.Omega.{arith}
@@ -16,8 +16,8 @@ use Rattle.report.specs.Report.{added, futuresLine, seriesLines}
 use Rattle.report.specs.Lines.{lineRoom, inTurn}
 use Rattle.report.proofs.Fields.{text-of}
 use Rattle.report.proofs.InTurn.{in-turn-put, in-turn-next, element-fits}
-use Rattle.row_lines.proofs.series_futures.Statement.{statement}
-use Rattle.row_lines.proofs.series_futures.Tie as tie
+use Rattle.futures_lines.proofs.series_futures.Statement.{statement}
+use Rattle.futures_lines.proofs.series_futures.Tie as tie
 
 abbrev Inv-loop : tie.InvT-loop
 Inv-loop out₀ place row i before after next₀ a₀ out next a =

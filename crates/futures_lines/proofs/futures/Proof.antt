@@ -1,4 +1,4 @@
--- `row_lines::futures` meets its contract: the lines of the series passed stand in the buffer.
+-- `futures_lines::futures` meets its contract: the lines of the series passed stand in the buffer.
 use mathlib.Core.Path.{_≡_, refl}
 use Prim.Native.Nat.{_+_, _-_, _*_, _≤_}
 use native.Mathlib.Omega.{arith}
@@ -9,8 +9,8 @@ use Rattle.terms.specs.Bounds.{seriesRoom}
 use Rattle.report.specs.Report.{futuresIn, seriesLines, accountsRoom}
 use Rattle.report.specs.Lines.{inTurn}
 use Rattle.report.proofs.InTurn.{in-turn-put, in-turn-next}
-use Rattle.row_lines.proofs.futures.Statement.{statement}
-use Rattle.row_lines.proofs.futures.Tie as tie
+use Rattle.futures_lines.proofs.futures.Statement.{statement}
+use Rattle.futures_lines.proofs.futures.Tie as tie
 
 abbrev Inv-loop : tie.InvT-loop
 Inv-loop out₀ place row before after next₀ i₀ out next i =
