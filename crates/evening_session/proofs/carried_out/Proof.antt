@@ -30,11 +30,11 @@ use Rattle.evening_session.proofs.carried_out.Statement.{statement}
 use Rattle.evening_session.proofs.carried_out.Tie as tie
 
 -- a series after the evening of a book's day
-abbrev evened : Book → Series → Series
-evened b s = settled s (b .day)
+abbrev settledOn : Book → Series → Series
+settledOn b s = settled s (b .day)
 
 abbrev Inv-loop : tie.InvT-loop
-Inv-loop book₀ day listed margin₀ i₀ book margin i = Passed book₀ (evened book₀) i book margin
+Inv-loop book₀ day listed margin₀ i₀ book margin i = Passed book₀ (settledOn book₀) i book margin
 
 abbrev μ-loop : tie.MeasureT-loop
 μ-loop book₀ day listed margin₀ i₀ book margin i = listed - i
@@ -48,23 +48,23 @@ module _ (c : tie.In-loop Inv-loop μ-loop) where
   first = start .args .t1
 
   room : c .before .loop .i < seriesRoom
-  room = passed-room first (start .pre .0) (evened first) (c .loop-test .taken)
+  room = passed-room first (start .pre .0) (settledOn first) (c .loop-test .taken)
 
 -- ---- once all series are passed
 module _ (c : tie.After-loop Inv-loop μ-loop) where
   abbrev begun : tie.Start Inv-loop μ-loop
   begun = c .before .before .before .before .before
 
-  abbrev held : Book
-  held = begun .args .t1
+  abbrev original : Book
+  original = begun .args .t1
 
-  margin : c .before .loop .margin ≡ bySeries (paidFor held (eveningMarginIn held))
+  margin : c .before .loop .margin ≡ bySeries (paidFor original (eveningMarginIn original))
   margin =
-      passed-margin held (begun .pre .0) (evened held) (c .before .loop .inv) (omega (arith, c .loop-test .left))
-      ∙ evening-is held (begun .pre .0) (changed held (evened held)) refl
+      passed-margin original (begun .pre .0) (settledOn original) (c .before .loop .inv) (omega (arith, c .loop-test .left))
+      ∙ evening-is original (begun .pre .0) (changed original (settledOn original)) refl
 
-  series : c .before .loop .book ≡ withAllSeries held (changed held (evened held))
-  series = passed-series held (begun .pre .0) (evened held) (c .before .loop .inv) (omega (arith, c .loop-test .left))
+  series : c .before .loop .book ≡ withAllSeries original (changed original (settledOn original))
+  series = passed-series original (begun .pre .0) (settledOn original) (c .before .loop .inv) (omega (arith, c .loop-test .left))
 
 -- ---- what the code asks, in its order
 coefficients-requires : tie.Need-coefficients-requires Inv-loop μ-loop
@@ -80,7 +80,7 @@ loop-holds : tie.Need-loop-holds Inv-loop μ-loop
 loop-holds c =
     let s = c .before .before .before in
     let b = s .args .t1 in
-    passed-none b (s .pre .0) (evened b) _
+    passed-none b (s .pre .0) (settledOn b) _
     (c .traded .ensures ∙ ap (λ (l : List ℕ). bySeries (λ i a. tradesCost (b .blotter) (b .trades) i (getD l i 0) a)) (c .before .coefficients .ensures))
 
 mul-s : tie.Need-mul-s Inv-loop μ-loop
@@ -93,7 +93,7 @@ after-evening-requires : tie.Need-after-evening-requires Inv-loop μ-loop
 after-evening-requires c κs =
     let l = c .before in
     let g = start l .pre in
-    (rw (passed-here (first l) (g .0) (evened (first l)) (l .before .loop .inv) (l .loop-test .taken)) (g .0 .series (l .before .loop .i) (room l)), g .1)
+    (rw (passed-here (first l) (g .0) (settledOn (first l)) (l .before .loop .inv) (l .loop-test .taken)) (g .0 .series (l .before .loop .i) (room l)), g .1)
 
 revalue-series-requires : tie.Need-revalue-series-requires Inv-loop μ-loop
 revalue-series-requires c κs =
@@ -101,10 +101,10 @@ revalue-series-requires c κs =
     let g = start l .pre .0 in
     let i = l .before .loop .i in
     let h = l .before .loop .inv in
-    let good : GoodSeries (first l .day) (getD (l .before .loop .book .series) i noSeries) = rw (passed-here (first l) g (evened (first l)) h (l .loop-test .taken)) (g .series i (room l)) in
-    let left = passed-left (first l) g (evened (first l)) h (l .loop-test .taken) _ (c .before .after-evening .ensures) in
+    let good : GoodSeries (first l .day) (getD (l .before .loop .book .series) i noSeries) = rw (passed-here (first l) g (settledOn (first l)) h (l .loop-test .taken)) (g .series i (room l)) in
+    let left = passed-left (first l) g (settledOn (first l)) h (l .loop-test .taken) _ (c .before .after-evening .ensures) in
     let limited : Limited maxPosition (c .before .after-evening .result .positions) = rw left (settled-limited (first l) g _ refl i (room l)) in
-    (passed-costs (first l) g (evened (first l)) h (l .loop-test .taken), good, search (limited, good .limited))
+    (passed-costs (first l) g (settledOn (first l)) h (l .loop-test .taken), good, search (limited, good .limited))
 
 mul-next : tie.Need-mul-next Inv-loop μ-loop
 mul-next c = omega (arith, room (c .before .before .before .before))
@@ -121,13 +121,13 @@ loop-less c = search needs
 loop-again : tie.Need-loop-again Inv-loop μ-loop
 loop-again c =
     let l = c .before .before .before .before in
-    passed-next (first l) (start l .pre .0) (evened (first l)) (l .before .loop .inv) (l .loop-test .taken) _ (c .before .before .after-evening .ensures) _ (c .revalue-series .ensures)
+    passed-next (first l) (start l .pre .0) (settledOn (first l)) (l .before .loop .inv) (l .loop-test .taken) _ (c .before .before .after-evening .ensures) _ (c .revalue-series .ensures)
 
 less-requires : tie.Need-less-requires Inv-loop μ-loop
 less-requires c κs =
     let e = c .before in
     let g = begun e .pre .0 in
-    let whole : Bounded mostInASeries (e .before .loop .margin) = rw (margin e) (evening-bounded (held e) g) in
+    let whole : Bounded mostInASeries (e .before .loop .margin) = rw (margin e) (evening-bounded (original e) g) in
     let paid : Bounded mostInASeries (e .before .loop .book .«intraday_paid») = rw (series e) (g .paid) in
     (whole, search (whole, paid, bounded-zeros mostInASeries cells))
 
@@ -136,36 +136,36 @@ module _ (c : tie.After-less Inv-loop μ-loop) where
   abbrev passed : tie.After-loop Inv-loop μ-loop
   passed = c .before .before
 
-  rest : c .less .result ≡ table cells (λ k. at (bySeries (paidFor (held passed) (eveningMarginIn (held passed)))) k -ℤ at (held passed .«intraday_paid») k)
+  rest : c .less .result ≡ table cells (λ k. at (bySeries (paidFor (original passed) (eveningMarginIn (original passed)))) k -ℤ at (original passed .«intraday_paid») k)
   rest =
       c .less .ensures
       ∙ ap (λ (l : List ℤ). table cells (λ k. at l k -ℤ at (passed .before .loop .book .«intraday_paid») k)) (margin passed)
-      ∙ ap (λ (b : Book). table cells (λ k. at (bySeries (paidFor (held passed) (eveningMarginIn (held passed)))) k -ℤ at (b .«intraday_paid») k)) (series passed)
+      ∙ ap (λ (b : Book). table cells (λ k. at (bySeries (paidFor (original passed) (eveningMarginIn (original passed)))) k -ℤ at (b .«intraday_paid») k)) (series passed)
 
 in-all-requires : tie.Need-in-all-requires Inv-loop μ-loop
 in-all-requires c κs =
     let e = passed (c .before) in
-    rw (rest (c .before)) (rest-bounded (held e) (begun e .pre .0))
+    rw (rest (c .before)) (rest-bounded (original e) (begun e .pre .0))
 
 -- the money and the cash
 module _ (c : tie.After-in-all Inv-loop μ-loop) where
   abbrev all : tie.After-loop Inv-loop μ-loop
   all = passed (c .before .before)
 
-  money : c .in-all .result ≡ table accounts (eveningMoney (held all))
-  money = c .in-all .ensures ∙ evening-in-all (held all) (begun all .pre .0) _ (rest (c .before .before))
+  money : c .in-all .result ≡ table accounts (eveningMoney (original all))
+  money = c .in-all .ensures ∙ evening-in-all (original all) (begun all .pre .0) _ (rest (c .before .before))
 
 pay-requires : tie.Need-pay-requires Inv-loop μ-loop
 pay-requires c κs =
     let e = all (c .before) in
-    let b = held e in
+    let b = original e in
     let g = begun e .pre .0 in
     (rw (series e) (cash-bounded b g), rw (money (c .before)) (bounded-table accounts (eveningMoney b) (evening-within b g)))
 
-cash : (c : tie.After-pay Inv-loop μ-loop) → c .pay .result ≡ paidInto (held (all (c .before .before)) .cash) (eveningMoney (held (all (c .before .before))))
+cash : (c : tie.After-pay Inv-loop μ-loop) → c .pay .result ≡ paidInto (original (all (c .before .before)) .cash) (eveningMoney (original (all (c .before .before))))
 cash c =
     let n = c .before .before in
-    let b = held (all n) in
+    let b = original (all n) in
     c .pay .ensures
     ∙ ap (λ (k : Book). table accounts (λ a. at (k .cash) a +ℤ at (n .in-all .result) a)) (series (all n))
     ∙ paid-into (b .cash) (eveningMoney b) _ (money n)
@@ -176,7 +176,7 @@ add-book c = omega (arith, begun (all (c .before .before)) .pre .1)
 returns : tie.Need-returns Inv-loop μ-loop
 returns c =
     let n = c .before .before in
-    let b = held (all n) in
+    let b = original (all n) in
     λ i. record {
       answer = Done;
       money = money n i;

@@ -46,16 +46,16 @@ module _ (c : tie.After-loop Inv-loop μ-loop) where
   abbrev begun : tie.Start Inv-loop μ-loop
   begun = c .before .before .before .before .before
 
-  abbrev held : Book
-  held = begun .args .t1
+  abbrev original : Book
+  original = begun .args .t1
 
-  margin : c .before .loop .margin ≡ bySeries (paidFor held (intradayMoneyIn held))
+  margin : c .before .loop .margin ≡ bySeries (paidFor original (intradayMoneyIn original))
   margin =
-      passed-margin held (begun .pre) unmarked (c .before .loop .inv) (omega (arith, c .loop-test .left))
-      ∙ intraday-is held (begun .pre) (changed held unmarked) refl
+      passed-margin original (begun .pre) unmarked (c .before .loop .inv) (omega (arith, c .loop-test .left))
+      ∙ intraday-is original (begun .pre) (changed original unmarked) refl
 
-  series : c .before .loop .book ≡ withAllSeries held (changed held unmarked)
-  series = passed-series held (begun .pre) unmarked (c .before .loop .inv) (omega (arith, c .loop-test .left))
+  series : c .before .loop .book ≡ withAllSeries original (changed original unmarked)
+  series = passed-series original (begun .pre) unmarked (c .before .loop .inv) (omega (arith, c .loop-test .left))
 
 -- ---- what the code asks, in its order
 coefficients-requires : tie.Need-coefficients-requires Inv-loop μ-loop
@@ -115,26 +115,26 @@ loop-again c =
 in-all-requires : tie.Need-in-all-requires Inv-loop μ-loop
 in-all-requires c κs =
     let e = c .before in
-    rw (margin e) (bounded-le (intraday-bounded (held e) (begun e .pre)) (omega arith))
+    rw (margin e) (bounded-le (intraday-bounded (original e) (begun e .pre)) (omega arith))
 
-money : (c : tie.After-in-all Inv-loop μ-loop) → c .in-all .result ≡ table accounts (intradayMoney (held (c .before .before)))
+money : (c : tie.After-in-all Inv-loop μ-loop) → c .in-all .result ≡ table accounts (intradayMoney (original (c .before .before)))
 money c =
     let e = c .before .before in
-    c .in-all .ensures ∙ intraday-in-all (held e) (begun e .pre) _ (margin e)
+    c .in-all .ensures ∙ intraday-in-all (original e) (begun e .pre) _ (margin e)
 
 pay-requires : tie.Need-pay-requires Inv-loop μ-loop
 pay-requires c κs =
     let e = c .before .before .before in
-    let b = held e in
+    let b = original e in
     let g = begun e .pre in (
       rw (series e) (cash-bounded b g),
       rw (money (c .before)) (bounded-table accounts (intradayMoney b) (λ a _. within-le (intraday-within b g a) (omega arith))),
     )
 
-cash : (c : tie.After-pay Inv-loop μ-loop) → c .pay .result ≡ paidInto (held (c .before .before .before .before) .cash) (intradayMoney (held (c .before .before .before .before)))
+cash : (c : tie.After-pay Inv-loop μ-loop) → c .pay .result ≡ paidInto (original (c .before .before .before .before) .cash) (intradayMoney (original (c .before .before .before .before)))
 cash c =
     let e = c .before .before .before .before in
-    let b = held e in
+    let b = original e in
     c .pay .ensures
     ∙ ap (λ (k : Book). table accounts (λ a. at (k .cash) a +ℤ at (c .before .before .in-all .result) a)) (series e)
     ∙ paid-into (b .cash) (intradayMoney b) _ (money (c .before .before))
