@@ -1,9 +1,10 @@
-// What an answer's line tells: the number of the answer or of the row's refusal, and the series that it names.
+// What an answer's line tells: the number of the answer or of the row's refusal, the series that it names and the period.
 pub mod number; // number.rt: rows that are refused before they reach the book
 
 use book::state::Answer;
 use book::state::Event;
 use book::state::Found;
+use book::state::Period;
 use series::refusal::Refusal;
 use terms::refusals;
 ghost use mathlib.Core.Path.{_≡_};
@@ -43,6 +44,7 @@ pub fn answer_number(answer: Answer) -> u64
     match answer {
         Answer::Done => 0,
         Answer::Listed(_) => 0,
+        Answer::Traded(_) => 0,
         Answer::Refused(why) => refusal_number(why),
     }
 }
@@ -64,7 +66,20 @@ pub fn named(answer: Answer) -> Found
     match answer {
         Answer::Done => Found::Nothing,
         Answer::Listed(i) => Found::At(i),
+        Answer::Traded(_) => Found::Nothing,
         Answer::Refused(why) => named_by(why),
+    }
+}
+
+// The period that an answer tells.
+pub fn period(answer: Answer) -> Period
+    ensures { λ r. ⌜ r ≡ rule.periodTold answer ⌝ }
+{
+    match answer {
+        Answer::Done => Period::Untold,
+        Answer::Listed(_) => Period::Untold,
+        Answer::Traded(p) => Period::In(p),
+        Answer::Refused(_) => Period::Untold,
     }
 }
 

@@ -7,7 +7,7 @@ use native.Mathlib.Decide.{ℕ-discrete}
 use native.Mathlib.Omega.{arith}
 use lib.ListN.{length, set, getD, length-set}
 use lib.Seq.{getD-set-same, getD-set-other}
-use Rattle.margin.specs.Margin.{noTrade}
+use Rattle.margin.specs.Margin.{noTrade, inPeriod}
 use Rattle.margin.specs.declared.trade.Trade.{Trade}
 use Rattle.terms.specs.Bounds.{seriesRoom, blotterRoom}
 use Rattle.series.specs.Changes.{listingOf, traded, requested, declinedBy, marked}
@@ -149,9 +149,9 @@ good-entry b g t w room =
     again : (u : Trade) → GoodTrade b u → GoodTrade (withEntry b t) u
     again u = same-trade b (withEntry b t) u refl (omega arith) (λ i _. refl)
 
--- a trade that is allowed moves positions
-pub can-move : (b : Book) (d : Deal) → CanTrade b d → CanMove (seriesAt b (d .series) .positions) (entryOf d)
-can-move b d c =
+-- a trade that is allowed moves positions, in whatever period
+pub can-move : (b : Book) (p : ℕ) (d : Deal) → CanTrade b d → CanMove (seriesAt b (d .series) .positions) (inPeriod p (entryOf d))
+can-move b p d c =
     record {
       buyer = c .buyer;
       seller = c .seller;
@@ -162,15 +162,16 @@ can-move b d c =
       seller-limit = c .seller-limit;
     }
 
-pub good-trade : (b : Book) → Good b → (d : Deal)
-    → CanTrade b d → Good (withTrade b (entryOf d))
+pub good-trade : (b : Book) → Good b → (p : ℕ) (d : Deal)
+    → CanTrade b d → Good (withTrade b (inPeriod p (entryOf d)))
 unfolding withEntry
-good-trade b g d c =
+good-trade b g p d c =
     let i = d .series in
-    let s = traded (seriesAt b i) (entryOf d) in
-    let good = good-traded (b .day) (seriesAt b i) (good-series b g (c .listed)) (entryOf d) (can-move b d c) in
-    good-entry (withSeries b i s) (good-with-series b g i (c .listed) (c .live) s refl good) (entryOf d)
-    (same-trade b (withSeries b i s) (entryOf d) refl (omega arith) (λ j _. same-listing b g i (c .listed) (c .live) s refl good j)
+    let t = inPeriod p (entryOf d) in
+    let s = traded (seriesAt b i) t in
+    let good = good-traded (b .day) (seriesAt b i) (good-series b g (c .listed)) t (can-move b p d c) in
+    good-entry (withSeries b i s) (good-with-series b g i (c .listed) (c .live) s refl good) t
+    (same-trade b (withSeries b i s) t refl (omega arith) (λ j _. same-listing b g i (c .listed) (c .live) s refl good j)
     (record {
       series = c .listed;
       live = c .live;

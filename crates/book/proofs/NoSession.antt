@@ -90,6 +90,7 @@ listed-since b g e i p a lt = by (verdictOf b e) refl p
     number : Answer → ℕ
     number answer.Done = suc i
     number (answer.Listed k) = k
+    number (answer.Traded p) = suc i
     number (answer.Refused why) = suc i
 
     other : suc i ≡ i → ⊥

@@ -39,6 +39,7 @@ pub fn empty() -> Book
         seller: 0,
         buyer_section: 0,
         seller_section: 0,
+        period: 0,
         quantity: 0,
         price: 0,
     };
@@ -70,6 +71,7 @@ pub fn step(mut book: Book, event: Event) -> Step
         day: book.day,
         listed: book.listed,
         trades: book.trades,
+        intraday_done: book.intraday_done,
     };
     let effect = effect::effect(today, listing, &s.positions, event);
     apply::move_positions(&mut s.positions, effect);

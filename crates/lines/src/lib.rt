@@ -1,5 +1,6 @@
 // One line of the output. Each function puts its text at a place of the buffer and returns the place after it.
 use book::state::Found;
+use book::state::Period;
 use terms::refusals::CALENDAR;
 ghost use mathlib.Core.List.{[], _∷_, _++_};
 ghost use Prim.Native.Nat.{_+_, _≤_};
@@ -18,15 +19,15 @@ pub fn header(out: &mut [u8], at: usize) -> usize
     put::bytes(out, at, b"row,kind,series,account,amount\r\n")
 }
 
-// The number of an answer, with the series that it names.
-pub fn answer(out: &mut [u8], at: usize, row: u64, found: Found, number: u64) -> usize
+// The number of an answer, with the series that it names and the period that it tells.
+pub fn answer(out: &mut [u8], at: usize, row: u64, found: Found, told: Period, number: u64) -> usize
     requires { ⌜ at + text.lineRoom ≤ length (now out) ⌝ }
-    ensures { λ r. ⌜ Put (now (out .entry)) at (rule.answerLine row found number) (now (out .exit)) r ⌝ }
+    ensures { λ r. ⌜ Put (now (out .entry)) at (rule.answerLine row found told number) (now (out .exit)) r ⌝ }
     ensures { λ r. ⌜ r ≤ at + text.lineRoom ⌝ }
 {
     let series = line_fields::begin(out, at, row, b'A');
     let commas = line_fields::series(out, series, found);
-    let digits = put::bytes(out, commas, b",,");
+    let digits = line_fields::period(out, commas, told);
     let next = line_fields::number(out, digits, number);
     line_fields::end(out, next)
 }
@@ -38,7 +39,7 @@ pub fn no_calendar(out: &mut [u8]) -> usize
     ensures { λ r. ⌜ r ≤ text.lineRoom + text.lineRoom ⌝ }
 {
     let next = header(out, 0);
-    answer(out, next, 0, Found::Nothing, CALENDAR)
+    answer(out, next, 0, Found::Nothing, Period::Untold, CALENDAR)
 }
 
 // The money of an account, where it is not 0.

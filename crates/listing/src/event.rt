@@ -25,6 +25,7 @@ pub fn list(mut book: Book, new: NewSeries) -> Step
         day: book.day,
         listed: n,
         trades: book.trades,
+        intraday_done: book.intraday_done,
     };
     if let Verdict::Refused(why) = list_verdict(today, new) {
         return refused(book, why);

@@ -25,9 +25,9 @@ not-counted (Requested r) x k = refl
 not-counted (Declined w) x k = refl
 not-counted (Marked m) x k = refl
 
-pub carried-out : (e : Effect) → OneOf (1 ∷ 2 ∷ 3 ∷ 4 ∷ []) (tagOf laid.the-type e) → Done ≡ answerBy e
-carried-out (Refused why) k = absurd (miss (1 ∷ 2 ∷ 3 ∷ 4 ∷ []) 0 tt k)
-carried-out (Traded t) k = refl
+pub carried-out : (e : Effect) → OneOf (2 ∷ 3 ∷ 4 ∷ []) (tagOf laid.the-type e) → Done ≡ answerBy e
+carried-out (Refused why) k = absurd (miss (2 ∷ 3 ∷ 4 ∷ []) 0 tt k)
+carried-out (Traded t) k = absurd (miss (2 ∷ 3 ∷ 4 ∷ []) 1 tt k)
 carried-out (Requested r) k = refl
 carried-out (Declined w) k = refl
 carried-out (Marked m) k = refl

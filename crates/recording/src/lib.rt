@@ -40,11 +40,13 @@ pub fn counted(standing: usize, effect: Effect) -> usize
     }
 }
 
+// The answer: a trade that is carried out tells its period.
 pub fn answer(effect: Effect) -> Answer
     ensures { λ r. ⌜ r ≡ rule.answerBy effect ⌝ }
 {
     match effect {
         Effect::Refused(why) => Answer::Refused(why),
+        Effect::Traded(t) => Answer::Traded(t.period),
         _ => Answer::Done,
     }
 }

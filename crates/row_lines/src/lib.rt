@@ -17,8 +17,9 @@ pub fn answered(out: &mut [u8], at: usize, row: u64, answer: Answer) -> usize
     ensures { λ r. ⌜ r ≤ at + text.lineRoom ⌝ }
 {
     let found = answers::named(answer);
+    let told = answers::period(answer);
     let number = answers::answer_number(answer);
-    lines::answer(out, at, row, found, number)
+    lines::answer(out, at, row, found, told, number)
 }
 
 // The money of all accounts.

@@ -3,6 +3,7 @@ use answers::is_session;
 use book::state::Book;
 use book::state::Event;
 use book::state::Found;
+use book::state::Period;
 use rows::types::Row;
 use stream::types::Replay;
 ghost use mathlib.Core.Path.{_≡_};
@@ -100,7 +101,14 @@ fn answer_row(
     let row = std::num::wrapping_add_u64(last, 1);
     match row_reader::read_row(calendar, bytes) {
         Row::Refused(why) => {
-            let next = lines::answer(out, at, row, Found::Nothing, answers::number::of_row(why));
+            let next = lines::answer(
+                out,
+                at,
+                row,
+                Found::Nothing,
+                Period::Untold,
+                answers::number::of_row(why),
+            );
             Replay {
                 book: book,
                 row: row,

@@ -58,6 +58,7 @@ pub fn whole_rows(calendar: &[u64], input: &[u8], out: &mut [u8], replay: Replay
             day: book.day,
             listed: book.listed,
             trades: book.trades,
+            intraday_done: book.intraday_done,
         };
         let mut h = held[series];
         let effect = effect::effect(today, listing, &h.positions, event);

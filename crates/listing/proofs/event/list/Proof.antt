@@ -41,11 +41,11 @@ enum-told c = search needs
 cast-t11 : tie.Need-cast-t11
 cast-t11 c = omega (arith, allowed (c .before) .strike-most)
 
-cast-t15 : tie.Need-cast-t15
-cast-t15 c = omega (arith, allowed (c .before .before) .tick-most)
-
 cast-t16 : tie.Need-cast-t16
-cast-t16 c = omega (arith, allowed (c .before .before .before) .last-most)
+cast-t16 c = omega (arith, allowed (c .before .before) .tick-most)
+
+cast-t17 : tie.Need-cast-t17
+cast-t17 c = omega (arith, allowed (c .before .before .before) .last-most)
 
 new-series-requires : tie.Need-new-series-requires
 new-series-requires c κs = search needs
@@ -59,8 +59,8 @@ element-set-from-s c = allowed (c .before .before .before .before) .room
 add-book : tie.Need-add-book
 add-book c = omega (arith, allowed (c .before .before .before .before) .room)
 
-cast-t19 : tie.Need-cast-t19
-cast-t19 c = omega (arith, allowed (c .before .before .before .before) .room)
+cast-t20 : tie.Need-cast-t20
+cast-t20 c = omega (arith, allowed (c .before .before .before .before) .room)
 
 returns-2 : tie.Need-returns-2
 returns-2 c =
@@ -85,11 +85,11 @@ list-spec =
     returns
     enum-told
     cast-t11
-    cast-t15
     cast-t16
+    cast-t17
     new-series-requires
     mul-s
     element-set-from-s
     add-book
-    cast-t19
+    cast-t20
     returns-2)

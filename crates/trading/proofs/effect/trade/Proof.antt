@@ -1,6 +1,10 @@
 -- `trading::effect::trade` meets its contract: the effect by the verdict.
-use mathlib.Core.Path.{refl, sym, _∙_}
+use mathlib.Core.Path.{refl, sym, ap, _∙_}
+use Prim.Native.Nat.{ℕ}
 use native.Mathlib.Omega.{arith}
+use Rattle.margin.specs.Margin.{inPeriod}
+use Rattle.book.specs.Step.{entryOf}
+use Rattle.book.specs.declared.state.Effect.the-variants.{Traded}
 use Rattle.book.proofs.Allowed.{TradeAllowed, trade-allowed}
 use Rattle.book.proofs.Effects.{effect-refused, effect-allowed}
 use Rattle.book.proofs.Decided.{verdict-is}
@@ -33,16 +37,21 @@ cast-t8 c = omega (arith, allowed (c .before) .buyer-section)
 cast-t9 : tie.Need-cast-t9
 cast-t9 c = omega (arith, allowed (c .before .before) .seller-section)
 
-cast-t10 : tie.Need-cast-t10
-cast-t10 c = omega (arith, allowed (c .before .before .before) .most)
+period-of-requires : tie.Need-period-of-requires
+period-of-requires c κs = search needs
 
 cast-t11 : tie.Need-cast-t11
-cast-t11 c = omega (arith, allowed (c .before .before .before .before) .price)
+cast-t11 c = omega (arith, allowed (c .before .before .before .before) .most)
+
+cast-t12 : tie.Need-cast-t12
+cast-t12 c = omega (arith, allowed (c .before .before .before .before .before) .price)
 
 returns-2 : tie.Need-returns-2
 returns-2 c =
-    let t = c .before .before .before .before in
-    effect-allowed _ refl (verdict-is (t .before .before .trade-verdict .ensures) (t .enum-told .given .1))
+    let period = c .before .before in
+    let t = period .before .before .before in
+    effect-allowed _ (ap (λ (p : ℕ). Traded (inPeriod p (entryOf (start t .args .deal)))) (period .period-of .ensures))
+    (verdict-is (t .before .before .trade-verdict .ensures) (t .enum-told .given .1))
 
 pub trade-spec : {M : Type 1} → statement M
 trade-spec =
@@ -54,6 +63,7 @@ trade-spec =
     enum-told
     cast-t8
     cast-t9
-    cast-t10
+    period-of-requires
     cast-t11
+    cast-t12
     returns-2)
