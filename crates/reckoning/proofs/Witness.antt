@@ -1,5 +1,6 @@
 -- The demand is not empty: the first eight rows of crates/replay/stdin are a list with an intraday session and two evenings carried out, the second
--- an expiry at the money; and another option price in the mark for its intraday session makes another list that is alike.
+-- an expiry at the money; and another option price in the mark for its intraday session makes another list that is alike. Nor is the promise on
+-- periods: a list has trades in both.
 use mathlib.Core.Path.{_≡_, refl, sym, ap, _∙_}
 use mathlib.Core.Logic.{_⊎_, inl, inr}
 use mathlib.Core.Bool.{Bool, true, _&&_}
@@ -19,6 +20,7 @@ use Rattle.integer.specs.Sum.{sumℕ, sumTo}
 use Rattle.integer.specs.Table.{at, table}
 use Rattle.margin.specs.Margin.{signed, cost, costIn}
 use Rattle.places.specs.Places.{placeIn, ofAccount, gross}
+use Rattle.series.specs.declared.event.Deal.{Deal}
 use Rattle.series.specs.Conditions.{grossAfter, passesLimit}
 use Rattle.terms.specs.declared.Category.the-variants.{American}
 use Rattle.terms.specs.declared.OptionType.the-variants.{Call}
@@ -26,14 +28,16 @@ use Rattle.value.specs.Rounding.{nearest}
 use Rattle.book.specs.Answers.{wasCarriedOut}
 use Rattle.book.specs.Sessions.{intradayMoneyIn, eveningMarginIn, eveningMoneyIn, intradayMoney, eveningMoney}
 use Rattle.book.specs.State.{emptyBook, futures, cash}
-use Rattle.book.specs.Step.{decided, stepOf, run, after}
+use Rattle.book.specs.Step.{periodOf, decided, stepOf, run, after}
 use Rattle.book.specs.Verdicts.{andThen, firstFrom, needsMark}
 use Rattle.book.specs.declared.state.Book.{Book}
 use Rattle.book.specs.declared.state.Event.{Event}
 use Rattle.book.specs.declared.state.Event.the-variants.{List, Trade, Mark, Intraday, Evening}
 use Rattle.book.proofs.Live.{both-true}
 use Rattle.reckoning.specs.Demand.{eventAt, carriedAt, CarriedOut, OtherMark, Alike, isMark, upTo}
+use Rattle.reckoning.specs.Periods.{AfterIntraday, periodAt}
 use Rattle.reckoning.proofs.Demand.{demand-3}
+use Rattle.reckoning.proofs.Periods.{periods}
 
 -- the list of the example, with the option price p in the mark for its intraday session
 abbrev mark : ℕ → ℕ → Event
@@ -141,3 +145,64 @@ witnessed =
 pub other-cash : cash (after (upTo 7 (example 16100))) 1 ≡ negsuc 149999
 other-cash =
     sym (ap (λ (b : Book). cash b 1) (demand-3 (example 16000) .no-trace (example 16100) (witnessed .alike) 7 (witnessed .expiry))) ∙ witnessed .expiry-cash
+
+-- ---- a trade before an intraday session, one after it, and one on the next day
+abbrev dealt : ℕ → ℕ → Deal
+dealt buyer seller = record { series = 0; buyer = buyer; seller = seller; quantity = 10; price = 15000; «buyer_section» = 0; «seller_section» = 0 }
+
+abbrev pub twoPeriods : list.List Event
+twoPeriods =
+    List (record { option = Call; category = American; strike = 1700000; tick = 100; «last_day» = 1 })
+    ∷ Trade (dealt 1 2)
+    ∷ mark 16000 1702000
+    ∷ Intraday
+    ∷ Trade (dealt 3 4)
+    ∷ mark 15500 1700000
+    ∷ Evening
+    ∷ Trade (dealt 5 6)
+    ∷ []
+
+periods-carried : (i : ℕ) → i < 8 → carriedAt emptyBook twoPeriods i ≡ true
+unfolding rules all-below
+periods-carried i h = at-below 8 (carriedAt emptyBook twoPeriods) refl i h
+
+in-periods : (e : Event) (i : ℕ) → i < 8 → eventAt twoPeriods i ≡ e → CarriedOut emptyBook twoPeriods e i
+in-periods e i h q = record { within = h; event = q; carried = rw (periods-carried i h) tt }
+
+pub record PeriodsWitnessed : Type 0 where
+  pub before : CarriedOut emptyBook twoPeriods (Trade (dealt 1 2)) 1
+  pub first-period : periodAt twoPeriods 1 ≡ 1
+  pub behind : CarriedOut emptyBook twoPeriods (Trade (dealt 3 4)) 4
+  pub intraday : AfterIntraday twoPeriods 4
+  pub second-period : periodAt twoPeriods 4 ≡ 2
+  pub next-day : CarriedOut emptyBook twoPeriods (Trade (dealt 5 6)) 7
+  pub again-first : periodAt twoPeriods 7 ≡ 1
+
+pub periods-witnessed : PeriodsWitnessed
+unfolding rules periodOf
+periods-witnessed =
+    record {
+      before = in-periods (Trade (dealt 1 2)) 1 (lit< tt) refl;
+      first-period = refl;
+      behind = in-periods (Trade (dealt 3 4)) 4 (lit< tt) refl;
+      intraday = record {
+        session = 3;
+        earlier = lit< tt;
+        intraday = in-periods Intraday 3 (lit< tt) refl;
+        no-evening-since = λ k h l C. none k h l;
+      };
+      second-period = refl;
+      next-day = in-periods (Trade (dealt 5 6)) 7 (lit< tt) refl;
+      again-first = refl;
+    }
+  where
+    none : (k : ℕ) → 3 < k → k < 4 → ⊥
+    none k h l = omega arith
+
+-- so no intraday session came before the third trade on its day, by the promise
+pub no-intraday-since : ¬ AfterIntraday twoPeriods 7
+no-intraday-since A =
+    other (periodAt twoPeriods 7) (periods-witnessed .again-first) (periods twoPeriods .kept 7 (dealt 5 6) (periods-witnessed .next-day) .second A)
+  where
+    other : (n : ℕ) → n ≡ 1 → n ≡ 2 → ⊥
+    other n q r = omega arith
