@@ -1,4 +1,4 @@
--- `row_step::event_row` meets its contract: an event is the evening session, the intraday session, or none.
+-- `event_row::event_row` meets its contract: an event is the evening session, the intraday session, or none.
 use mathlib.Core.Path.{_≡_, refl, sym, _∙_}
 use mathlib.Core.Bool.{true}
 use mathlib.Core.List.{[], _∷_}
@@ -10,8 +10,8 @@ use Rattle.book.proofs.Live.{false-not-true}
 use Rattle.book.proofs.state.Event as laid
 use Rattle.report.specs.Report.{isSession}
 use borrow.Author.Needs.{needs}
-use Rattle.row_step.proofs.event_row.Statement.{statement}
-use Rattle.row_step.proofs.event_row.Tie as tie
+use Rattle.event_row.proofs.event_row.Statement.{statement}
+use Rattle.event_row.proofs.event_row.Tie as tie
 
 -- a session that is not the evening's, by the number of its kind
 other-session : (e : Event) → isSession e ≡ true → OneOf (0 ∷ 1 ∷ 2 ∷ 3 ∷ 4 ∷ 5 ∷ []) (tagOf laid.the-type e) → e ≡ Intraday

@@ -1,11 +1,11 @@
--- `row_step::quiet_row` meets its contract: the report of an event that is no session is its answer's line.
+-- `event_row::quiet_row` meets its contract: the report of an event that is no session is its answer's line.
 use mathlib.Core.Path.{refl, ap}
 use native.Mathlib.Omega.{arith}
 use Rattle.book.specs.declared.state.Step.{Step}
 use Rattle.report.proofs.Quiet.{quiet-report}
 use borrow.Author.Needs.{needs}
-use Rattle.row_step.proofs.quiet_row.Statement.{statement}
-use Rattle.row_step.proofs.quiet_row.Tie as tie
+use Rattle.event_row.proofs.quiet_row.Statement.{statement}
+use Rattle.event_row.proofs.quiet_row.Tie as tie
 
 step-requires : tie.Need-step-requires
 step-requires c κs = search needs

@@ -1,11 +1,11 @@
--- `row_step::evening_row` meets its contract: the lines are those of the report.
+-- `event_row::evening_row` meets its contract: the lines are those of the report.
 use mathlib.Core.Path.{refl, ap}
 use Rattle.book.specs.declared.state.Event.the-variants.{Evening}
 use Rattle.book.specs.declared.state.Step.{Step}
 use Rattle.book.proofs.Keeps.{stays-good}
 use borrow.Author.Needs.{needs}
-use Rattle.row_step.proofs.evening_row.Statement.{statement}
-use Rattle.row_step.proofs.evening_row.Tie as tie
+use Rattle.event_row.proofs.evening_row.Statement.{statement}
+use Rattle.event_row.proofs.evening_row.Tie as tie
 
 evening-requires : tie.Need-evening-requires
 evening-requires c κs = search needs

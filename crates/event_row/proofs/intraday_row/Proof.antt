@@ -1,4 +1,4 @@
--- `row_step::intraday_row` meets its contract: no futures arise, so its report is its answer's line and the money.
+-- `event_row::intraday_row` meets its contract: no futures arise, so its report is its answer's line and the money.
 use mathlib.Core.Path.{refl, ap}
 use native.Mathlib.Omega.{arith}
 use Rattle.book.specs.declared.state.Event.the-variants.{Intraday}
@@ -7,8 +7,8 @@ use Rattle.book.proofs.Keeps.{stays-good}
 use Rattle.report.proofs.Fields.{_then_}
 use Rattle.report.proofs.Quiet.{intraday-report}
 use borrow.Author.Needs.{needs}
-use Rattle.row_step.proofs.intraday_row.Statement.{statement}
-use Rattle.row_step.proofs.intraday_row.Tie as tie
+use Rattle.event_row.proofs.intraday_row.Statement.{statement}
+use Rattle.event_row.proofs.intraday_row.Tie as tie
 
 intraday-requires : tie.Need-intraday-requires
 intraday-requires c κs = search needs
