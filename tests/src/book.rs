@@ -72,7 +72,10 @@ pub enum Event {
 #[derive(Clone, Debug, PartialEq, Eq)]
 pub enum Done {
     Entered,
+    /// With the number of the series.
     Listed(u8),
+    /// With the period of the trade.
+    Traded(u8),
     Settled(Box<Session>),
 }
 
@@ -119,6 +122,8 @@ pub struct Trade {
     pub seller: u8,
     pub quantity: i64,
     pub price: u64,
+    /// 2 if an intraday session of the day came before it, or else 1.
+    pub period: u8,
 }
 
 #[derive(Clone, Debug, PartialEq, Eq)]
@@ -161,7 +166,7 @@ impl Book {
                 self.list(option, category, strike, tick, last_day).map(Done::Listed)
             }
             Event::Trade { series, buyer, seller, quantity, price } => {
-                self.trade(series, buyer, seller, quantity, price).map(|()| Done::Entered)
+                self.trade(series, buyer, seller, quantity, price).map(Done::Traded)
             }
             Event::Exercise { series, holder, quantity } => {
                 self.exercise(series, holder, quantity).map(|()| Done::Entered)
@@ -203,8 +208,9 @@ impl Book {
         Ok((self.series.len() - 1) as u8)
     }
 
-    fn trade(&mut self, number: u8, buyer: Party, seller: Party, quantity: u64, price: u64) -> Result<(), Refusal> {
+    fn trade(&mut self, number: u8, buyer: Party, seller: Party, quantity: u64, price: u64) -> Result<u8, Refusal> {
         let blotter_is_full = self.blotter.len() == TRADES_A_DAY;
+        let period = self.period();
         let series = self.live_series(number)?;
         let [buys, sells] = places([buyer, seller])?;
         refuse_if(buys.account == sells.account, Refusal::OwnTrade)?;
@@ -219,8 +225,15 @@ impl Book {
         refuse_if(blotter_is_full, Refusal::BlotterFull)?;
         series.positions[buys.account] = bought;
         series.positions[sells.account] = sold;
-        self.blotter.push(Trade { series: number, buyer: buyer.account, seller: seller.account, quantity, price });
-        Ok(())
+        self.blotter.push(Trade {
+            series: number,
+            buyer: buyer.account,
+            seller: seller.account,
+            quantity,
+            price,
+            period,
+        });
+        Ok(period)
     }
 
     fn exercise(&mut self, number: u8, holder: Party, quantity: u64) -> Result<(), Refusal> {
@@ -294,6 +307,15 @@ impl Book {
         self.paid = [0; ACCOUNTS];
         self.day += 1;
         Ok(Session { money, futures })
+    }
+
+    /// The period that the day is in.
+    fn period(&self) -> u8 {
+        if self.intraday_is_over {
+            2
+        } else {
+            1
+        }
     }
 
     /// The series with this number, if it is listed and not expired.

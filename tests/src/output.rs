@@ -8,10 +8,11 @@ pub const HEADER: &[u8] = b"row,kind,series,account,amount\r\n";
 /// The lines of one row: its answer, then money by account, then futures by series and account.
 pub fn write_lines(out: &mut Vec<u8>, row: u64, answer: &Result<Done, Refusal>) {
     match answer {
-        Ok(Done::Entered) => write_answer(out, row, None, 0),
-        Ok(Done::Listed(series)) => write_answer(out, row, Some(*series), 0),
+        Ok(Done::Entered) => write_answer(out, row, None, None, 0),
+        Ok(Done::Listed(series)) => write_answer(out, row, Some(*series), None, 0),
+        Ok(Done::Traded(period)) => write_answer(out, row, None, Some(*period), 0),
         Ok(Done::Settled(session)) => {
-            write_answer(out, row, None, 0);
+            write_answer(out, row, None, None, 0);
             write_session(out, row, session);
         }
         Err(refusal) => {
@@ -19,18 +20,23 @@ pub fn write_lines(out: &mut Vec<u8>, row: u64, answer: &Result<Done, Refusal>) 
                 Refusal::NoMark(series) => Some(*series),
                 _ => None,
             };
-            write_answer(out, row, named, refusal.number());
+            write_answer(out, row, named, None, refusal.number());
         }
     }
 }
 
-fn write_answer(out: &mut Vec<u8>, row: u64, series: Option<u8>, number: u64) {
+/// A trade's period stands in the place of the account.
+fn write_answer(out: &mut Vec<u8>, row: u64, series: Option<u8>, period: Option<u8>, number: u64) {
     write_number(out, row);
     out.extend_from_slice(b",A,");
     if let Some(series) = series {
         write_number(out, series.into());
     }
-    out.extend_from_slice(b",,");
+    out.push(b',');
+    if let Some(period) = period {
+        write_number(out, period.into());
+    }
+    out.push(b',');
     write_number(out, number);
     out.extend_from_slice(b"\r\n");
 }
@@ -134,6 +140,8 @@ mod tests {
     fn answers() {
         assert_eq!(lines(Ok(Done::Entered)), "12,A,,,0\r\n");
         assert_eq!(lines(Ok(Done::Listed(7))), "12,A,7,,0\r\n");
+        assert_eq!(lines(Ok(Done::Traded(1))), "12,A,,1,0\r\n");
+        assert_eq!(lines(Ok(Done::Traded(2))), "12,A,,2,0\r\n");
         assert_eq!(lines(Err(Refusal::Finished)), "12,A,,,1\r\n");
         assert_eq!(lines(Err(Refusal::NoMark(3))), "12,A,3,,16\r\n");
         assert_eq!(lines(Err(Refusal::Row)), "12,A,,,20\r\n");

@@ -250,6 +250,7 @@ impl Census {
         match answer {
             Ok(Done::Entered) => self.count("A without series"),
             Ok(Done::Listed(_)) => self.count("A with the listed series"),
+            Ok(Done::Traded(_)) => self.count("A with a period"),
             Ok(Done::Settled(session)) => {
                 let name = if event == Some(Event::Intraday) { "intraday" } else { "evening" };
                 for &money in &session.money {
@@ -423,6 +424,7 @@ fn every_refusal_and_every_kind_of_line() {
         [
             "A without series",
             "A with the listed series",
+            "A with a period",
             "M received in an intraday",
             "M paid in an intraday",
             "M received in an evening",

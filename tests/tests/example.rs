@@ -22,7 +22,7 @@ V
 const OUTPUT: &str = "\
 row,kind,series,account,amount
 1,A,0,,0
-2,A,,,0
+2,A,,1,0
 3,A,,,0
 4,A,,,0
 4,M,,1,100.00
