@@ -1,5 +1,5 @@
 //! The worked example of crates/replay/stdin, and the ends that an input can have; its call listed by date, and a calendar
-//! that is refused; sections that are left out, and those of two worked examples.
+//! that is refused; the period of a trade in its answer; sections that are left out, and those of two worked examples.
 
 use std::io::{self, Read};
 
@@ -86,6 +86,57 @@ fn every_row_counts_and_refused_ones_too() {
 fn a_session_that_lacks_a_mark_names_the_series() {
     let input = crlf("L,GAZR-3.23M150323CA17000,100,1\nL,GAZR-3.23M150323CA18000,100,1\nM,0,0,0,100000\nV\n");
     assert!(answers(&input).ends_with("\r\n4,A,1,,16\r\n"));
+}
+
+/// Rows, each with its line but for the row's number.
+fn assert_lines(rows: &[(&str, &str)]) {
+    let input: String = rows.iter().map(|(row, _)| format!("{row}\n")).collect();
+    let lines: String = (1..).zip(rows).map(|(number, (_, line))| format!("{number},{line}\n")).collect();
+    assert_eq!(answers(&crlf(&input)), crlf(&format!("row,kind,series,account,amount\n{lines}")));
+}
+
+#[test]
+fn a_trade_that_is_carried_out_has_its_period_in_the_account_column() {
+    assert_lines(&[
+        ("L,GAZR-3.23M150323CA17000,100,1", "A,0,,0"),
+        ("T,0,1,2,1,0", "A,,1,0"),
+        ("T,1,1,2,1,0", "A,,,2"),
+        ("T,0,1,2,1,1", "A,,,7"),
+        ("T,0,1,2,1", "A,,,20"),
+        ("I", "A,0,,16"),
+        ("T,0,1,2,1,0,1,1", "A,,1,0"),
+        ("M,0,0,0,100000", "A,,,0"),
+        ("T,0,2,1,1,0", "A,,1,0"),
+        ("I", "A,,,0"),
+        ("T,0,1,2,1,0", "A,,2,0"),
+        ("T,1,1,2,1,0", "A,,,2"),
+        ("T,0,64,2,1,0", "A,,,4"),
+        ("T,0,1,2,1,0,0,2", "A,,,23"),
+        ("T,0,1,1,1,0", "A,,,5"),
+        ("T,0,1,2,0,0", "A,,,6"),
+        ("T,0,1,2,1,1", "A,,,7"),
+        ("T,0,1,2,1", "A,,,20"),
+        ("I", "A,,,15"),
+        ("V", "A,0,,16"),
+        ("T,0,1,2,1,0,1,1", "A,,2,0"),
+        ("X,0,1,0", "A,,,0"),
+        ("M,0,0,0,100000", "A,,,0"),
+        ("V", "A,,,0"),
+        ("T,0,1,2,1,0", "A,,1,0"),
+        ("D,0,1", "A,,,0"),
+    ]);
+}
+
+#[test]
+fn a_trade_after_an_intraday_session_without_live_series_is_in_period_2() {
+    assert_lines(&[
+        ("I", "A,,,0"),
+        ("T,0,1,2,1,0", "A,,,2"),
+        ("L,GAZR-3.23M150323CA17000,100,1", "A,0,,0"),
+        ("T,0,1,2,1,0", "A,,2,0"),
+        ("I", "A,,,15"),
+        ("T,0,1,2,1,0", "A,,2,0"),
+    ]);
 }
 
 #[test]

@@ -516,6 +516,120 @@ fn futures_by_series_and_account() {
     assert_eq!(session(&mut book, "V").futures, [(0, 0, -2), (0, 5, 2), (1, 1, -1), (1, 9, 1)]);
 }
 
+// Periods.
+
+/// The period in the answer of a trade that is carried out; its record has joined the blotter with the same.
+fn period(book: &mut Book, row: &str) -> u8 {
+    let mut blotter = book.blotter.clone();
+    let Ok(Done::Traded(period)) = apply(book, row) else { panic!("{row} is no trade that is carried out") };
+    let Some(&last) = book.blotter.last() else { panic!("{row} has no record") };
+    assert_eq!(last.period, period, "{row}");
+    blotter.push(last);
+    assert_eq!(book.blotter, blotter, "{row} changed another record");
+    period
+}
+
+fn periods(book: &Book) -> Vec<u8> {
+    book.blotter.iter().map(|trade| trade.period).collect()
+}
+
+#[test]
+fn period_1_then_2_and_1_again_after_the_evening() {
+    let mut book = book(&format!("{CALL} {CALL}"));
+    let marks = "M,0,0,0,100000 M,1,0,0,100000";
+    for _ in 0..3 {
+        assert_eq!(period(&mut book, "T,0,1,2,1,0"), 1);
+        run(&mut book, marks);
+        assert_eq!(period(&mut book, "T,1,2,1,1,0,1,0"), 1);
+        run(&mut book, "I");
+        assert_eq!(period(&mut book, "T,1,1,2,1,0"), 2);
+        run(&mut book, marks);
+        assert_eq!(period(&mut book, "T,0,2,1,1,0,0,1"), 2);
+        // The session has left the records before it as they were.
+        assert_eq!(periods(&book), [1, 1, 2, 2]);
+        run(&mut book, "V");
+        assert_eq!(periods(&book), []);
+    }
+    // A day without an intraday session has period 1 alone.
+    for _ in 0..2 {
+        assert_eq!(period(&mut book, "T,0,1,2,1,0"), 1);
+        run(&mut book, &format!("{marks} V"));
+    }
+}
+
+#[test]
+fn a_refused_intraday_session_begins_no_period() {
+    let mut book = book(&format!("{CALL} {CALL}"));
+    assert_eq!(refused(&mut book, "I"), 16);
+    assert_eq!(period(&mut book, "T,0,1,2,1,0"), 1);
+    run(&mut book, "M,0,0,0,100000");
+    assert_eq!(refused(&mut book, "I"), 16);
+    assert_eq!(period(&mut book, "T,1,1,2,1,0"), 1);
+    run(&mut book, "M,1,0,0,100000 I");
+    assert_eq!(period(&mut book, "T,0,1,2,1,0"), 2);
+    // A second one changes nothing, with marks and without.
+    assert_eq!(refused(&mut book, "I"), 15);
+    assert_eq!(period(&mut book, "T,0,1,2,1,0"), 2);
+    run(&mut book, "M,0,0,0,100000 M,1,0,0,100000");
+    assert_eq!(refused(&mut book, "I"), 15);
+    assert_eq!(period(&mut book, "T,1,1,2,1,0"), 2);
+    assert_eq!(periods(&book), [1, 1, 2, 2, 2]);
+}
+
+#[test]
+fn a_refused_evening_ends_no_day() {
+    let mut book = book(&format!("{CALL} T,0,1,2,1,0"));
+    assert_eq!(refused(&mut book, "V"), 16);
+    assert_eq!(period(&mut book, "T,0,1,2,1,0"), 1);
+    run(&mut book, "M,0,0,0,100000 I");
+    assert_eq!(refused(&mut book, "V"), 16);
+    assert_eq!(period(&mut book, "T,0,1,2,1,0"), 2);
+    assert_eq!(periods(&book), [1, 1, 2]);
+}
+
+#[test]
+fn an_intraday_session_without_live_series_counts() {
+    // None is listed,
+    let mut book = book("I");
+    run(&mut book, CALL);
+    assert_eq!(period(&mut book, "T,0,1,2,1,0"), 2);
+    // and the evening without any ends the day.
+    let mut book = self::book(&format!("I V {CALL}"));
+    assert_eq!(period(&mut book, "T,0,1,2,1,0"), 1);
+    // All have expired.
+    let mut book = self::book("L,GAZR-3.23M150323CA17000,100,0 T,0,1,2,1,0 M,0,0,0,100000 V I");
+    assert_eq!(refused(&mut book, "T,0,1,2,1,0"), 3);
+    run(&mut book, CALL);
+    assert_eq!(period(&mut book, "T,1,1,2,1,0"), 2);
+    assert_eq!(refused(&mut book, "I"), 15);
+    assert_eq!(period(&mut book, "T,1,1,2,1,0"), 2);
+}
+
+#[test]
+fn a_refused_trade_has_no_record_in_either_period() {
+    let mut book = book(CALL);
+    run(&mut book, &"T,0,1,2,1000,0 ".repeat(100));
+    run(&mut book, &"T,0,3,4,1,0 ".repeat(155));
+    for session in ["", "M,0,0,0,100000 I"] {
+        run(&mut book, session);
+        for (row, number) in [
+            ("T,1,1,2,1,0", 2),
+            ("T,0,64,2,1,0", 4),
+            ("T,0,1,2,1,0,2,0", 23),
+            ("T,0,1,1,1,0", 5),
+            ("T,0,1,2,0,0", 6),
+            ("T,0,1,2,1,1", 7),
+            ("T,0,1,2,1,0", 8),
+        ] {
+            assert_eq!(refused(&mut book, row), number, "{row}");
+        }
+    }
+    // The last place of the blotter is the only one that is taken in period 2.
+    assert_eq!(period(&mut book, "T,0,3,4,1,0"), 2);
+    assert_eq!(refused(&mut book, "T,0,3,4,1,0"), 9);
+    assert_eq!(periods(&book), [[1; 255].as_slice(), &[2]].concat());
+}
+
 // Sections.
 
 #[test]
