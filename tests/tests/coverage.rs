@@ -3,6 +3,8 @@
 
 #[path = "coverage/calendars.rs"]
 mod calendars;
+#[path = "coverage/periods.rs"]
+mod periods;
 #[path = "coverage/sections.rs"]
 mod sections;
 
@@ -20,6 +22,7 @@ use second::rows::{self, Rows};
 use second::{gate_seeds, GATE_CALENDARS, GATE_CODES};
 
 use calendars::{wanted_of_broken_calendars, wanted_of_listings_by_date};
+use periods::{wanted_of_periods, Day};
 use sections::wanted_of_sections;
 
 /// How often each thing has happened.
@@ -30,6 +33,8 @@ struct Census {
     carried_out: u64,
     /// The series of the present market that were listed by date.
     by_date: Vec<u8>,
+    /// The sessions of its present day.
+    day: Day,
 }
 
 impl Census {
@@ -78,6 +83,7 @@ impl Census {
         let mut rows = Rows::new(input);
         let mut book = Book::new();
         self.by_date.clear();
+        self.day = Day::default();
         while let Some(row) = rows.next_row().unwrap() {
             self.rows += 1;
             self.take_bytes(row);
@@ -87,6 +93,7 @@ impl Census {
             }
             let answer = event.and_then(|event| book.apply(event));
             self.take_answer(&book, event.ok(), &answer);
+            self.take_periods(&book, event.ok(), &answer);
             self.take_sections(&book, row, event.ok(), &answer);
             self.take_listing(file, calendar, &book, row, &answer);
             if let Some(code) = code_of(row) {
@@ -480,6 +487,7 @@ fn every_refusal_and_every_kind_of_line() {
     );
     wanted.extend(wanted_of_codes());
     wanted.extend(wanted_of_listings_by_date());
+    wanted.extend(wanted_of_periods());
     wanted.extend(wanted_of_sections());
     println!("{} rows, {} carried out", census.rows, census.carried_out);
     census.print();
@@ -532,7 +540,15 @@ fn the_market_of_the_full_size() {
     census.take(&File::Missing, &input);
     assert!((275_000..=285_000).contains(&census.rows));
     assert_eq!(census.carried_out, census.rows);
-    for what in ["F positive", "F negative", "M paid in an intraday", "M received in an evening", "full blotter"] {
+    for what in [
+        "F positive",
+        "F negative",
+        "M paid in an intraday",
+        "M received in an evening",
+        "full blotter",
+        "trade in period 1",
+        "trade in period 2",
+    ] {
         assert!(census.counts[what] >= 1_000, "{what}");
     }
 }
