@@ -21,7 +21,7 @@ use std::ops::Range;
 
 use book::Book;
 use calendar::Calendar;
-use market::FIRST_WITH_SECTIONS;
+use market::{FIRST_OF_PERIODS, FIRST_WITH_SECTIONS};
 use refusal::Refusal;
 use rows::Rows;
 
@@ -74,11 +74,14 @@ fn refuse_calendar(refusal: Refusal, mut output: impl Write) -> io::Result<()> {
 /// The markets that the gate compares: those that name no sections,
 pub const GATE_SEEDS: Range<u64> = 0..1000;
 
-/// and those that do.
+/// those that do,
 pub const GATE_SECTION_SEEDS: Range<u64> = FIRST_WITH_SECTIONS..FIRST_WITH_SECTIONS + 300;
 
+/// and those of periods.
+pub const GATE_PERIOD_SEEDS: Range<u64> = FIRST_OF_PERIODS..FIRST_OF_PERIODS + 100;
+
 pub fn gate_seeds() -> impl Iterator<Item = u64> {
-    GATE_SEEDS.chain(GATE_SECTION_SEEDS)
+    GATE_SEEDS.chain(GATE_SECTION_SEEDS).chain(GATE_PERIOD_SEEDS)
 }
 
 /// The seeds of the contract codes that it compares beside them.

@@ -6,6 +6,7 @@ mod calendar;
 mod code;
 mod damage;
 mod noise;
+mod periods;
 mod sections;
 
 use crate::book::{Book, ACCOUNTS, LAST_DAY, SECTIONS, SERIES};
@@ -53,6 +54,8 @@ pub enum Kind {
     SectionEnding,
     /// Every few rows one is damaged, with sections.
     SectionDamage,
+    /// Intraday sessions anywhere in a day, also before its first series, and tries of one, with sections.
+    Periods,
 }
 
 /// Those that name no sections. A seed's kind is its remainder by the number of kinds,
@@ -81,8 +84,17 @@ pub const SECTION_KINDS: [Kind; 6] = [
 
 pub const FIRST_WITH_SECTIONS: u64 = 1_000_000;
 
+/// From `FIRST_OF_PERIODS` on it is one of periods, which name sections too.
+pub const PERIOD_KINDS: [Kind; 1] = [Kind::Periods];
+
+pub const FIRST_OF_PERIODS: u64 = 2_000_000;
+
 pub fn kind(seed: u64) -> Kind {
-    let kinds = if seed < FIRST_WITH_SECTIONS { &KINDS[..] } else { &SECTION_KINDS };
+    let kinds = match seed {
+        FIRST_OF_PERIODS.. => &PERIOD_KINDS[..],
+        FIRST_WITH_SECTIONS.. => &SECTION_KINDS,
+        _ => &KINDS,
+    };
     kinds[(seed % kinds.len() as u64) as usize]
 }
 
@@ -145,6 +157,8 @@ struct Style {
     damaged: u64,
     extreme: bool,
     sections: Sections,
+    /// The intraday session is held or tried anywhere in a day.
+    periods: bool,
 }
 
 impl Style {
@@ -163,6 +177,7 @@ impl Style {
             damaged: 10,
             extreme: false,
             sections: Sections::Unnamed,
+            periods: false,
         };
         let in_both = Sections::Mixed(500);
         match kind {
@@ -212,6 +227,16 @@ impl Style {
                 Style { quiet_days: random.between(990, 998), busy_days: 12, sections: in_both, ..ordinary }
             }
             Kind::SectionDamage => Style { damaged: 250, sections: in_both, ..ordinary },
+            Kind::Periods => Style {
+                busy_days: 8,
+                events: 8,
+                live: 1,
+                life: random.between(0, 2),
+                accounts: random.between(2, 8),
+                sections: in_both,
+                periods: true,
+                ..ordinary
+            },
         }
     }
 
@@ -327,7 +352,11 @@ impl Market {
     fn run(&mut self) {
         self.pass_quiet_days();
         for _ in 0..self.style.busy_days {
-            self.busy_day();
+            if self.style.periods {
+                self.day_of_periods();
+            } else {
+                self.busy_day();
+            }
         }
     }
 
@@ -357,9 +386,7 @@ impl Market {
 
     fn busy_day(&mut self) {
         self.perhaps_odd_listing();
-        while self.live().len() < self.style.live && self.book.series.len() < SERIES && !self.is_finished() {
-            self.list();
-        }
+        self.list_enough();
         self.events();
         if self.random.one_in(2) {
             self.session("I");
@@ -369,6 +396,12 @@ impl Market {
             self.events();
         }
         self.session("V");
+    }
+
+    fn list_enough(&mut self) {
+        while self.live().len() < self.style.live && self.book.series.len() < SERIES && !self.is_finished() {
+            self.list();
+        }
     }
 
     fn events(&mut self) {

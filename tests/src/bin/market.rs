@@ -1,5 +1,5 @@
-//! Prints the market of a seed, `market SEED`, which names sections from seed 1000000 on, or the market of the full size,
-//! `market full`.
+//! Prints the market of a seed, `market SEED`, which names sections from seed 1000000 on and is of periods from seed 2000000
+//! on, or the market of the full size, `market full`.
 
 use std::io::{self, BufWriter, Write};
 use std::process::ExitCode;

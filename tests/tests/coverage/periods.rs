@@ -60,6 +60,7 @@ impl Census {
             (second, "after a second intraday session that was refused"),
             (no_evening, "after an evening that was refused"),
             (without_series, "after an intraday session without live series"),
+            (intraday && listed == 0, "after an intraday session before the book's first listing"),
             (intraday && series >= listed, "in a series listed after the intraday session"),
         ];
         for (holds, case) in cases {
@@ -78,6 +79,7 @@ pub fn wanted_of_periods() -> Vec<String> {
         "trade in period 2 after a second intraday session that was refused",
         "trade in period 2 after an evening that was refused",
         "trade in period 2 after an intraday session without live series",
+        "trade in period 2 after an intraday session before the book's first listing",
         "trade in period 2 in a series listed after the intraday session",
         "trade refused in period 1",
         "trade refused in period 2",
