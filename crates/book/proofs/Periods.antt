@@ -20,7 +20,7 @@ use Rattle.book.specs.declared.state.Answer.the-variants as answer
 use Rattle.book.specs.declared.state.Book.{Book}
 use Rattle.book.specs.declared.state.Event.{Event}
 use Rattle.book.specs.declared.state.Event.the-variants.{List, Trade, Exercise, Decline, Mark, Intraday, Evening}
-use Rattle.book.specs.declared.state.Period.the-variants.{In}
+use Rattle.book.specs.declared.state.Period.the-variants.{In, Untold}
 use Rattle.book.specs.declared.state.Step.{Step}
 use Rattle.book.proofs.Allowed.{allowed-trade}
 use Rattle.book.proofs.Decided.{carried-answer}
@@ -35,13 +35,13 @@ pub first-period : {intradayDone : Bool} → intradayDone ≡ false → periodOf
 unfolding periodOf choose
 first-period e = rw e refl
 
+pub not-both : (period : ℕ) → period ≡ 1 → period ≡ 2 → ⊥
+not-both period first second = omega arith
+
 pub second-only : (intradayDone : Bool) → periodOf intradayDone ≡ 2 → intradayDone ≡ true
 unfolding periodOf choose
 second-only true p = refl
-second-only false p = absurd (other 1 refl p)
-  where
-    other : (n : ℕ) → n ≡ 1 → n ≡ 2 → ⊥
-    other n q r = omega arith
+second-only false p = absurd (not-both 1 refl p)
 
 -- ---- whether the day's intraday session is over, after an event and whether it was carried out
 unfoldable pub overAfter : Event → Bool → Bool → Bool
@@ -102,6 +102,32 @@ trade-joined b g d = by (verdictOf b (Trade d)) refl
           counted = omega arith;
         }
     by (Refused why) v t = absurd t
+
+-- ---- no other answer tells a period: none of an event that is no trade, none of an event that is refused
+pub others-tell-none : (b : Book) (e : Event) → ((d : Deal) → e ≢ Trade d) → periodTold (stepOf b e .answer) ≡ Untold
+unfolding decided periodTold
+others-tell-none b e m = by (verdictOf b e)
+  where
+    carried : (e : Event) → ((d : Deal) → e ≢ Trade d) → periodTold (carriedOut b e .answer) ≡ Untold
+    carried (List n) m = refl
+    carried (Trade d) m = absurd (m d refl)
+    carried (Exercise r) m = refl
+    carried (Decline w) m = refl
+    carried (Mark q) m = refl
+    carried Intraday m = refl
+    carried Evening m = refl
+
+    by : (v : Verdict) → periodTold (decided b e v .answer) ≡ Untold
+    by Allowed = carried e m
+    by (Refused why) = refl
+
+pub refusals-tell-none : (b : Book) (e : Event) → wasCarriedOut (stepOf b e .answer) ≡ false → periodTold (stepOf b e .answer) ≡ Untold
+unfolding decided periodTold
+refusals-tell-none b e = by (verdictOf b e)
+  where
+    by : (v : Verdict) → wasCarriedOut (decided b e v .answer) ≡ false → periodTold (decided b e v .answer) ≡ Untold
+    by Allowed h = absurd (false-not-true (sym h ∙ carried-answer b e))
+    by (Refused why) h = refl
 
 -- ---- a record of the day stands: an event that is no evening, or is refused, leaves it where it is
 pub record Stands (b c : Book) (k : ℕ) : Type 0 where

@@ -8,7 +8,6 @@ use Prim.Native.Nat.{ℕ, zero, suc, _≤_, _<_}
 use native.Mathlib.Decide.{ℕ-discrete}
 use native.Mathlib.Nat.{not-suc-le-zero}
 use native.Mathlib.Omega.{arith}
-use lib.Dec.{T}
 use lib.ListN.{length, take}
 use Rattle.margin.specs.Margin.{inPeriod}
 use Rattle.margin.specs.declared.trade.Trade as record-of
@@ -23,7 +22,7 @@ use Rattle.book.proofs.Keeps.{good-after}
 use Rattle.book.proofs.Live.{false-not-true}
 use Rattle.book.proofs.Periods.{second-period, first-period, second-only, overAfter, over-after, no-intraday, no-evening, Joined, trade-joined, Stands, record-stands}
 use Rattle.reckoning.specs.Demand.{eventAt, carriedAt, CarriedOut, upTo}
-use Rattle.reckoning.specs.Periods.{AfterIntraday, joinsAt, recordAt, periodAt, PeriodKept, Periods}
+use Rattle.reckoning.specs.Periods.{AfterIntraday, joinsAt, recordAt, periodAt, NoEvening, PeriodKept, Periods}
 
 -- the book after the event at place i, by the book before it
 run-next : (es : list.List Event) (b : Book) (i : ℕ) → i < length es → run b (upTo i es) ≡ stepOf (run b (take i es)) (eventAt es i) .book
@@ -118,9 +117,6 @@ over es zero h = record { to = λ p. absurd (false-not-true p); from = λ A. abs
 over es (suc i) h = over-next es i (omega arith) (over es i (omega arith))
 
 module _ (es : list.List Event) (i : ℕ) (d : Deal) (C : CarriedOut emptyBook es (Trade d) i) where
-  before : Book
-  before = after (take i es)
-
   -- the book after the trade
   traded : after (upTo i es) ≡ stepOf (after (take i es)) (Trade d) .book
   traded = run-next es emptyBook i (C .within) ∙ ap (λ (e : Event). stepOf (after (take i es)) e .book) (C .event)
@@ -135,9 +131,6 @@ module _ (es : list.List Event) (i : ℕ) (d : Deal) (C : CarriedOut emptyBook e
   its-period = ap (λ (t : record-of.Trade). t .period) its-record
 
   -- the record stands from there on
-  NoEvening : ℕ → Type 0
-  NoEvening j = (k : ℕ) → i < k → k ≤ j → ¬ CarriedOut emptyBook es Evening k
-
   StandsAfter : ℕ → Type 0
   StandsAfter j = Stands (after (upTo i es)) (after (upTo j es)) (joinsAt es i)
 
@@ -145,15 +138,14 @@ module _ (es : list.List Event) (i : ℕ) (d : Deal) (C : CarriedOut emptyBook e
   unfolding StandsAfter
   stands-here j q = rw (← q) (record { today = rw traded (joined .counted); same = refl })
 
-  stands-next : (j : ℕ) → i ≤ j → suc j < length es → NoEvening (suc j) → StandsAfter j → StandsAfter (suc j)
-  unfolding NoEvening StandsAfter
+  stands-next : (j : ℕ) → i ≤ j → suc j < length es → NoEvening es i (suc j) → StandsAfter j → StandsAfter (suc j)
+  unfolding StandsAfter
   stands-next j le h none S =
       let b = after (upTo j es) in
       let next = record-stands b (eventAt es (suc j)) (λ q t. none (suc j) (omega arith) (omega arith) (record { within = h; event = q; carried = t })) (joinsAt es i) (S .today) in
       rw (run-next es emptyBook (suc j) h) (record { today = next .today; same = next .same ∙ S .same })
 
-  stands-from : (j : ℕ) → i ≤ j → j < length es → NoEvening j → StandsAfter j
-  unfolding NoEvening
+  stands-from : (j : ℕ) → i ≤ j → j < length es → NoEvening es i j → StandsAfter j
   stands-from zero le h none = stands-here zero (omega arith)
   stands-from (suc j) le h none = by (ℕ-discrete i (suc j)) (λ l. stands-from j l (omega arith) (λ k a b. none k a (omega arith)))
     where
@@ -162,7 +154,7 @@ module _ (es : list.List Event) (i : ℕ) (d : Deal) (C : CarriedOut emptyBook e
       by (no q) rest = stands-next j (omega arith) h none (rest (omega arith))
 
   period-kept : PeriodKept es i d
-  unfolding overAt NoEvening StandsAfter
+  unfolding overAt StandsAfter
   period-kept =
       record {
         its-own = its-record ∙ ap (λ (p : ℕ). inPeriod p (entryOf d)) (sym its-period);

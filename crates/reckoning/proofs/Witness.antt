@@ -34,6 +34,7 @@ use Rattle.book.specs.declared.state.Book.{Book}
 use Rattle.book.specs.declared.state.Event.{Event}
 use Rattle.book.specs.declared.state.Event.the-variants.{List, Trade, Mark, Intraday, Evening}
 use Rattle.book.proofs.Live.{both-true}
+use Rattle.book.proofs.Periods.{not-both}
 use Rattle.reckoning.specs.Demand.{eventAt, carriedAt, CarriedOut, OtherMark, Alike, isMark, upTo}
 use Rattle.reckoning.specs.Periods.{AfterIntraday, periodAt}
 use Rattle.reckoning.proofs.Demand.{demand-3}
@@ -202,7 +203,4 @@ periods-witnessed =
 -- so no intraday session came before the third trade on its day, by the promise
 pub no-intraday-since : ¬ AfterIntraday twoPeriods 7
 no-intraday-since A =
-    other (periodAt twoPeriods 7) (periods-witnessed .again-first) (periods twoPeriods .kept 7 (dealt 5 6) (periods-witnessed .next-day) .second A)
-  where
-    other : (n : ℕ) → n ≡ 1 → n ≡ 2 → ⊥
-    other n q r = omega arith
+    not-both (periodAt twoPeriods 7) (periods-witnessed .again-first) (periods twoPeriods .kept 7 (dealt 5 6) (periods-witnessed .next-day) .second A)

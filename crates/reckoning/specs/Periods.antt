@@ -1,4 +1,5 @@
--- What holds of the trades' periods after every list of events from an empty book, refused ones among them (RULES, "Events").
+-- What holds of the trades' periods after every list of events from an empty book, refused ones among them (RULES, "Events" and "The
+-- reckoning").
 use mathlib.Core.Path.{_≡_}
 use mathlib.Core.List as list
 use Prim.Native.Nat.{ℕ, _≤_, _<_}
@@ -35,6 +36,10 @@ recordAt es i = recordAfter es i i
 abbrev pub periodAt : list.List Event → ℕ → ℕ
 periodAt es i = recordAt es i .period
 
+-- no Evening is carried out after place i, up to place j
+abbrev pub NoEvening : list.List Event → ℕ → ℕ → Type 0
+NoEvening es i j = (k : ℕ) → i < k → k ≤ j → ¬ CarriedOut emptyBook es Evening k
+
 -- of the trade d at place i
 pub record PeriodKept (es : list.List Event) (i : ℕ) (d : Deal) : Type 0 where
   -- the record is that of the trade
@@ -47,10 +52,8 @@ pub record PeriodKept (es : list.List Event) (i : ℕ) (d : Deal) : Type 0 where
   pub number : answerNumber (stepOf (after (take i es)) (Trade d) .answer) ≡ 0
   pub told : periodTold (stepOf (after (take i es)) (Trade d) .answer) ≡ In (periodAt es i)
   -- and the record is one of the day's and stands as it is, up to every later place with no Evening carried out up to there
-  pub today : (j : ℕ) → i ≤ j → j < length es → ((k : ℕ) → i < k → k ≤ j → ¬ CarriedOut emptyBook es Evening k)
-      → joinsAt es i < after (upTo j es) .trades
-  pub stands : (j : ℕ) → i ≤ j → j < length es → ((k : ℕ) → i < k → k ≤ j → ¬ CarriedOut emptyBook es Evening k)
-      → recordAfter es i j ≡ recordAt es i
+  pub today : (j : ℕ) → i ≤ j → j < length es → NoEvening es i j → joinsAt es i < after (upTo j es) .trades
+  pub stands : (j : ℕ) → i ≤ j → j < length es → NoEvening es i j → recordAfter es i j ≡ recordAt es i
 
 -- of every place where a trade is carried out
 pub record Periods (es : list.List Event) : Type 0 where
