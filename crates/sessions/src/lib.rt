@@ -37,8 +37,8 @@ pub fn evening(book: Book) -> Step
     if FINAL_DAY < book.day {
         return refused(book, Refusal::Finished);
     }
-    if let Found::At(i) = first_unmarked(book) {
-        return refused(book, Refusal::NoMark(i));
+    if let Found::At(series) = first_unmarked(book) {
+        return refused(book, Refusal::NoMark(series));
     }
     evening_session::carried_out(book)
 }

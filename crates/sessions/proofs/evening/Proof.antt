@@ -15,8 +15,8 @@ returns c = by-refusal _ Evening (c .refused .ensures) (search (hit, past, tests
 first-unmarked-requires : tie.Need-first-unmarked-requires
 first-unmarked-requires c κs = search needs
 
-enum-known-i : tie.Need-enum-known-i
-enum-known-i c = search needs
+enum-known-series : tie.Need-enum-known-series
+enum-known-series c = search needs
 
 refused-requires-2 : tie.Need-refused-requires-2
 refused-requires-2 c κs = search needs
@@ -40,7 +40,7 @@ evening-spec =
     refused-requires
     returns
     first-unmarked-requires
-    enum-known-i
+    enum-known-series
     refused-requires-2
     returns-2
     enum-told
