@@ -2,11 +2,9 @@
 use book::state::Found;
 use book::state::Period;
 use terms::refusals::CALENDAR;
-ghost use mathlib.Core.List.{[], _∷_, _++_};
 ghost use Prim.Native.Nat.{_+_, _≤_};
 ghost use lib.ListN.{length};
 ghost use Rattle.decimal.specs.Put.{Put};
-ghost use Rattle.decimal.specs.Text.{decimal};
 ghost use Rattle.report.specs.Lines as text;
 ghost use Rattle.report.specs.Report as rule;
 
