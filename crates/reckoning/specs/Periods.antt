@@ -40,7 +40,7 @@ periodAt es i = recordAt es i .period
 abbrev pub NoEvening : list.List Event → ℕ → ℕ → Type 0
 NoEvening es i j = (k : ℕ) → i < k → k ≤ j → ¬ CarriedOut emptyBook es Evening k
 
--- of the trade d at place i
+-- what holds of the trade d at place i, where it is carried out
 pub record PeriodKept (es : list.List Event) (i : ℕ) (d : Deal) : Type 0 where
   -- the record is that of the trade
   pub its-own : recordAt es i ≡ inPeriod (periodAt es i) (entryOf d)
@@ -55,6 +55,6 @@ pub record PeriodKept (es : list.List Event) (i : ℕ) (d : Deal) : Type 0 where
   pub today : (j : ℕ) → i ≤ j → j < length es → NoEvening es i j → joinsAt es i < after (upTo j es) .trades
   pub stands : (j : ℕ) → i ≤ j → j < length es → NoEvening es i j → recordAfter es i j ≡ recordAt es i
 
--- of every place where a trade is carried out
+-- it holds of every place where a trade is carried out
 pub record Periods (es : list.List Event) : Type 0 where
   pub kept : (i : ℕ) (d : Deal) → CarriedOut emptyBook es (Trade d) i → PeriodKept es i d
