@@ -1,10 +1,9 @@
 // The clearing book: every event is carried out or refused, with the money of all accounts beside the answer.
 mod whole; // whole.rt: events on the whole book
 
-ghost use Rattle.std.specs.Prelude.{◌≡◌, false};
+ghost use Rattle.std.specs.Prelude.{◌≡◌};
 ghost use Rattle.book.specs.Good.{Good};
-ghost use Rattle.book.specs.Interest.{open_interest};
-ghost use Rattle.book.specs.State.{empty_book, live};
+ghost use Rattle.book.specs.State.{empty_book};
 ghost use Rattle.book.specs.Step.{step_of};
 
 use book::state::{Book, Event, Step, Today};
@@ -67,7 +66,6 @@ pub fn step(mut book: Book, event: Event) -> Step
         intraday_done: book.intraday_done,
     };
     let effect = effect::effect(today, listing, &s.positions, event);
-    s.open_interest = apply::interest(s.open_interest, &s.positions, effect);
     apply::move_positions(&mut s.positions, effect);
     apply::set_request(&mut s.requests, effect);
     apply::set_decline(&mut s.declined, effect);
@@ -84,16 +82,4 @@ pub fn step(mut book: Book, event: Event) -> Step
         money: [0i64; ACCOUNTS],
         book: book,
     }
-}
-
-// The open interest of a series, 0 for a number that isn't listed or has expired.
-pub fn open_interest(book: Book, series: u8) -> u64
-    requires { Good book }
-    ensures { (result ≡ open_interest book series) × (live book series ≡ false → result ≡ 0) }
-{
-    let i = series as usize;
-    if SERIES <= i {
-        return 0;
-    }
-    book.series[i].open_interest
 }

@@ -2,16 +2,14 @@
 ghost use Rattle.std.specs.Prelude.{◌≡◌, ℕ, ◌≤◌, pos};
 ghost use Rattle.integer.specs.Bounds.{Within, Bounded};
 ghost use Rattle.integer.specs.Table.{at, table};
-ghost use Rattle.integer.specs.Sum.{sum_to, sumℕ};
+ghost use Rattle.integer.specs.Sum.{sum_to};
 ghost use Rattle.terms.specs.Bounds.{max_position};
 ghost use Rattle.places.specs.Places.{places, amount};
 ghost use Rattle.exercise.specs.Evening as rule;
-ghost use Rattle.exercise.specs.Interest.{held_in_all};
 
 use exercise::types::{Fixing, Outcome};
 use places::PLACES;
 use terms::OptionType;
-use writers::wide;
 
 // The position that remains once contracts of it were exercised or assigned.
 fn shrunk(position: i32, exercised: u32, assigned: u32) -> i32
@@ -32,16 +30,15 @@ fn futures(option: OptionType, exercised: u32, assigned: u32) -> i32
     }
 }
 
-// Both, place by place, with the open interest that is left.
+// Both, place by place.
 fn by_place(
     option: OptionType,
     positions: [i32; PLACES],
     exercised: [u32; PLACES],
     assigned: [u32; PLACES],
-    left: u64,
 ) -> Outcome
     requires { (Bounded max_position positions) × ((k : ℕ) → amount exercised k ≤ max_position) × ((k : ℕ) → amount assigned k ≤ max_position) }
-    ensures { result ≡ record { positions = table places (λ k. rule.shrunk (at positions k) (amount exercised k) (amount assigned k)); futures = table places (λ k. rule.futures option (amount exercised k) (amount assigned k)); open_interest = left } }
+    ensures { result ≡ record { positions = table places (λ k. rule.shrunk (at positions k) (amount exercised k) (amount assigned k)); futures = table places (λ k. rule.futures option (amount exercised k) (amount assigned k)) } }
 {
     let mut remaining = [0i32; PLACES];
     let mut arisen = [0i32; PLACES];
@@ -54,45 +51,28 @@ fn by_place(
     Outcome {
         positions: remaining,
         futures: arisen,
-        open_interest: left,
     }
 }
 
-// What is exercised in all.
-fn total(exercised: [u32; PLACES]) -> u64
-    ensures { result ≡ sumℕ places (amount exercised) }
-{
-    let mut sum: u64 = 0;
-    let mut place: usize = 0;
-    while place < PLACES {
-        sum += wide(exercised[place]);
-        place += 1;
-    }
-    sum
-}
-
-// What the exercise of an evening leaves of a series whose positions add up to 0, `interest` being their open interest: writers are assigned
-// by it, and what is exercised in all is taken from it.
+// What the exercise of an evening leaves of a series whose positions add up to 0.
 pub fn evening(
     fixing: Fixing,
     positions: [i32; PLACES],
-    interest: u64,
     requests: [u32; PLACES],
     declined: [bool; PLACES],
 ) -> Outcome
-    requires { (Bounded max_position positions) × (sum_to places (at positions) ≡ pos 0) × (interest ≡ held_in_all positions) }
+    requires { (Bounded max_position positions) × (sum_to places (at positions) ≡ pos 0) }
     ensures { result ≡ rule.outcome fixing positions requests declined }
 {
     let exercised = holders::exercised_by_place(fixing, positions, requests, declined);
-    let in_all = total(exercised);
+    let in_all = writers::sum::total(exercised);
     if in_all == 0 {
         return Outcome {
             positions: positions,
             futures: [0i32; PLACES],
-            open_interest: interest,
         };
     }
-    let assigned = writers::assign(in_all, interest, positions);
+    let assigned = writers::assign(in_all, positions);
     let option = fixing.option;
-    by_place(option, positions, exercised, assigned, interest - in_all)
+    by_place(option, positions, exercised, assigned)
 }

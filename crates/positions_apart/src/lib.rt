@@ -1,4 +1,4 @@
-// The positions of all series, with the open interest of each, taken out of the series while rows are carried out, and put back.
+// The positions of all series, taken out of the series while rows are carried out, and put back.
 ghost use Rattle.std.specs.Prelude.{◌≡◌};
 ghost use Rattle.book.specs.Apart as rule;
 
@@ -7,13 +7,12 @@ use places::PLACES;
 use series::state::Series;
 use terms::bounds::SERIES;
 
-// The positions and the open interest of each series.
+// The positions of each series.
 pub fn taken_out(series: [Series; SERIES]) -> [Held; SERIES]
     ensures { result ≡ rule.taken_out series }
 {
     let none = Held {
         positions: [0i32; PLACES],
-        open_interest: 0,
     };
     let mut out = [none; SERIES];
     let mut i: usize = 0;
@@ -22,7 +21,6 @@ pub fn taken_out(series: [Series; SERIES]) -> [Held; SERIES]
         let positions = s.positions;
         let held = Held {
             positions: positions,
-            open_interest: s.open_interest,
         };
         out[i] = held;
         i += 1;
@@ -30,7 +28,7 @@ pub fn taken_out(series: [Series; SERIES]) -> [Held; SERIES]
     out
 }
 
-// Each series with its positions and its open interest.
+// Each series with its positions.
 pub fn put_back(mut series: [Series; SERIES], held: [Held; SERIES]) -> [Series; SERIES]
     ensures { result ≡ rule.put_back series held }
 {
@@ -40,7 +38,6 @@ pub fn put_back(mut series: [Series; SERIES], held: [Held; SERIES]) -> [Series; 
         let h = held[i];
         let positions = h.positions;
         s.positions = positions;
-        s.open_interest = h.open_interest;
         series[i] = s;
         i += 1;
     }

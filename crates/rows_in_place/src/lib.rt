@@ -11,8 +11,8 @@ use rows::types::End;
 use stream::types::{Passed, Replay, SeriesRow};
 
 // The rows of a buffer that end in it. The book stays where it is for all of them: an event on one series changes that series of it,
-// and the blotter. The positions and their open interest stand apart meanwhile, so that a trade, which changes nothing else of a series,
-// does not copy the rest of it. For any other row they are put back, and taken out of the book after it.
+// and the blotter. The positions stand apart meanwhile, so that a trade, which changes nothing else of a series, does not copy the
+// rest of it. For any other row they are put back, and taken out of the book after it.
 pub fn whole_rows(calendar: &[u64], input: &[u8], out: &mut [u8], replay: Replay) -> Passed
     requires { Ready replay out.old }
     ensures { AllPassed (dates_of calendar.now) input.now replay out.old result out.new }
@@ -58,7 +58,6 @@ pub fn whole_rows(calendar: &[u64], input: &[u8], out: &mut [u8], replay: Replay
         };
         let mut h = held[series];
         let effect = effect::effect(today, listing, &h.positions, event);
-        h.open_interest = apply::interest(h.open_interest, &h.positions, effect);
         apply::move_positions(&mut h.positions, effect);
         held[series] = h;
         let n = recording::next_record(book.trades);

@@ -1,4 +1,3 @@
 pub mod Limit
-pub mod Interest
 pub mod Keeps
 pub mod Dropped

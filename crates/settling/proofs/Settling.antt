@@ -1,16 +1,14 @@
 -- The evening of a series as the code goes about it: the outcome of exercise, then expiry.
-use mathlib.Core.Path.{◌≡◌, refl, sym, ap, ◌∙◌}
+use mathlib.Core.Path.{◌≡◌, refl, ap, ◌∙◌}
 use mathlib.Core.Bool.{Bool, true, false}
 use mathlib.Core.List.{List}
 use Prim.Native.Nat.{ℕ}
 use lib.IntN.{ℤ, pos, ◌+ℤ◌}
-use lib.ListN.{replicate}
+use lib.ListN.{replicate, get_or}
 use Rattle.choice.specs.Choice.{choose}
 use Rattle.places.specs.Places.{places, amount, flag}
-use Rattle.exercise.specs.Evening.{outcome, remaining}
-use Rattle.exercise.specs.Interest.{held_in_all}
+use Rattle.exercise.specs.Evening.{outcome, remaining, arisen}
 use Rattle.exercise.specs.declared.types.Outcome.{Outcome}
-use Rattle.exercise.proofs.Interest.{none_held}
 use Rattle.exercise.proofs.Session.{arisen_within}
 use Rattle.integer.specs.Bounds.{Bounded}
 use Rattle.integer.proofs.Bounds.{bounded_table}
@@ -36,18 +34,6 @@ module _ (s : Series) (day : ℕ) where
 
       by : (t : Bool) → choose t (replicate places (pos 0)) (table places left) ≡ table places (λ k. choose t (pos 0) (left k))
       by true = replicate_table places (pos 0)
-      by false = refl
-
-  -- the open interest of that
-  pub closed_interest : (n : ℕ) → n ≡ outcome_of.open_interest → choose (last_day s day) 0 n ≡ held_in_all (table places (closing s day))
-  unfolding outcome choose
-  closed_interest n e = rw e (by (last_day s day))
-    where
-      left : ℕ → ℤ
-      left = remaining places (fixing_of s day) (at s.positions) (amount s.requests) (flag s.declined)
-
-      by : (t : Bool) → choose t 0 (held_in_all (table places left)) ≡ held_in_all (table places (λ k. choose t (pos 0) (left k)))
-      by true = sym (none_held _ (λ k lt. get_or_table places (λ _. pos 0) k (pos 0) lt))
       by false = refl
 
   -- futures grow by those that arose

@@ -21,13 +21,6 @@ fn closing(remaining: [i32; PLACES], last: bool) -> [i32; PLACES]
     if last { [0i32; PLACES] } else { remaining }
 }
 
-// Their open interest.
-fn closing_interest(left: u64, last: bool) -> u64
-    ensures { result ≡ choose last 0 left }
-{
-    if last { 0 } else { left }
-}
-
 // The futures of each place, and those that arose.
 fn grown(futures: [i32; PLACES], arisen: [i32; PLACES]) -> [i32; PLACES]
     requires { (Bounded max_futures futures) × (Bounded max_position arisen) }
@@ -59,7 +52,7 @@ pub fn settle(s: Series, day: u32) -> Series
     let held = s.positions;
     let requests = s.requests;
     let declined = s.declined;
-    let outcome = delivery::evening(fixing, held, s.open_interest, requests, declined);
+    let outcome = delivery::evening(fixing, held, requests, declined);
     let remaining = outcome.positions;
     let arisen = outcome.futures;
     let positions = closing(remaining, last);
@@ -69,7 +62,6 @@ pub fn settle(s: Series, day: u32) -> Series
         listing: listing,
         mark: mark,
         evening_price: s.mark.option,
-        open_interest: closing_interest(outcome.open_interest, last),
         positions: positions,
         opening: positions,
         requests: [0u32; PLACES],

@@ -1,4 +1,6 @@
 // What the writers of a series are assigned.
+pub mod sum;
+
 ghost use Rattle.std.specs.Prelude.{◌≡◌, ◌≤◌, ◌<◌, ◌^◌};
 ghost use Rattle.integer.specs.Bounds.{Bounded};
 ghost use Rattle.integer.specs.Sum.{sumℕ};
@@ -7,8 +9,8 @@ ghost use Rattle.terms.specs.Bounds.{max_position};
 ghost use Rattle.places.specs.Places.{places, amount};
 ghost use Rattle.exercise.specs.Exercise as rule;
 ghost use Rattle.exercise.specs.Assignment.{whole_part, remainder, assigned};
-ghost use Rattle.exercise.specs.Interest.{short_in_all};
 
+use crate::sum::{total, wide};
 use exercise::types::Shares;
 use places::PLACES;
 
@@ -36,50 +38,39 @@ fn short_by_place(positions: [i32; PLACES]) -> [u32; PLACES]
     out
 }
 
-// A number in 64 bits, known to fit 32.
-pub fn wide(x: u32) -> u64
-    ensures { (result ≡ x) × (result < 2 ^ 32) }
-{
-    x as u64
-}
-
 // Each writer's share of `exercised` contracts, where the writers are short `interest` in all. Who is short of nothing has 0 without a
 // division.
 fn shares(exercised: u64, interest: u64, shorts: [u32; PLACES]) -> Shares
     requires { (0 < interest) × (exercised ≤ interest) × (interest < 2 ^ 32) }
-    ensures { result ≡ record { whole = table places (whole_part exercised interest (amount shorts)); remainder = table places (remainder exercised interest (amount shorts)); given = sumℕ places (whole_part exercised interest (amount shorts)) } }
+    ensures { result ≡ record { whole = table places (whole_part exercised interest (amount shorts)); remainder = table places (remainder exercised interest (amount shorts)) } }
 {
     let mut whole = [0u32; PLACES];
     let mut rest = [0u32; PLACES];
-    let mut given: u64 = 0;
     let mut place: usize = 0;
     while place < PLACES {
         if shorts[place] != 0 {
             let product = exercised * wide(shorts[place]);
-            let contracts = product / interest;
-            whole[place] = contracts as u32;
+            whole[place] = (product / interest) as u32;
             rest[place] = (product % interest) as u32;
-            given += contracts;
         }
         place += 1;
     }
     Shares {
         whole: whole,
         remainder: rest,
-        given: given,
     }
 }
 
-// What each writer is assigned of `exercised` contracts, where the writers are short `interest` in all: its whole part, and one more at the
-// largest remainder for each contract left over. A place that got one is out of the search.
-fn by_largest_remainders(exercised: u64, interest: u64, shorts: [u32; PLACES]) -> [u32; PLACES]
-    requires { (0 < exercised) × (exercised ≤ interest) × (interest < 2 ^ 32) × (interest ≡ sumℕ places (amount shorts)) }
+// What each writer is assigned of `exercised` contracts: its whole part, and one more at the largest remainder for each
+// contract left over. A place that got one is out of the search.
+fn by_largest_remainders(exercised: u64, shorts: [u32; PLACES]) -> [u32; PLACES]
+    requires { (0 < exercised) × (exercised ≤ sumℕ places (amount shorts)) × (sumℕ places (amount shorts) < 2 ^ 32) }
     ensures { result ≡ table places (assigned places exercised (amount shorts)) }
 {
-    let parts = shares(exercised, interest, shorts);
+    let parts = shares(exercised, total(shorts), shorts);
     let mut out = parts.whole;
     let mut rest = parts.remainder;
-    let left = exercised - parts.given;
+    let left = exercised - total(out);
     for _ in 0..left {
         let mut largest: usize = 0;
         for place in 1..PLACES {
@@ -93,13 +84,13 @@ fn by_largest_remainders(exercised: u64, interest: u64, shorts: [u32; PLACES]) -
     out
 }
 
-// What each place is assigned of `exercised` contracts, where the open interest of the positions is `interest`.
-pub fn assign(exercised: u64, interest: u64, positions: [i32; PLACES]) -> [u32; PLACES]
-    requires { (Bounded max_position positions) × (exercised ≤ interest) × (interest ≡ short_in_all positions) }
+// What each place is assigned of `exercised` contracts.
+pub fn assign(exercised: u64, positions: [i32; PLACES]) -> [u32; PLACES]
+    requires { (Bounded max_position positions) × (exercised ≤ sumℕ places (λ k. rule.short (at positions k))) }
     ensures { result ≡ table places (assigned places exercised (λ k. rule.short (at positions k))) }
 {
     if exercised == 0 {
         return [0u32; PLACES];
     }
-    by_largest_remainders(exercised, interest, short_by_place(positions))
+    by_largest_remainders(exercised, short_by_place(positions))
 }

@@ -2,8 +2,8 @@
 use mathlib.Core.Path.{◌≡◌}
 use Prim.Native.Nat.{◌<◌}
 use native.Mathlib.Omega.{arith}
-use Rattle.terms.specs.Bounds.{blotter_room}
-use Rattle.series.specs.Good.{GoodSeries}
+use Rattle.terms.specs.Bounds.{blotter_room, max_position}
+use Rattle.integer.specs.Bounds.{Bounded}
 use Rattle.book.specs.Effects.{Fits}
 use Rattle.book.specs.Good.{Good}
 use Rattle.book.specs.State.{series_at}
@@ -22,11 +22,11 @@ stepped c is = (is, stays_good c.args.t1 c.args.event _ c.requires is)
 abbrev start : tie.After-effect → tie.Start
 start c = c.before.before.before.before.before.before.before.before
 
-good : (c : tie.After-effect) → GoodSeries (start c).args.t1.day (series_at (start c).args.t1 c.before.before.before.before.before.before.before.series-of.result)
-good c = (start c).requires.series c.before.before.before.before.before.before.before.series-of.result c.before.before.before.before.before.before.if1.false
+bounded : (c : tie.After-effect) → Bounded max_position (series_at (start c).args.t1 c.before.before.before.before.before.before.before.series-of.result).positions
+bounded c = ((start c).requires.series c.before.before.before.before.before.before.before.series-of.result c.before.before.before.before.before.before.if1.false).positions.bounded
 
 fits : (c : tie.After-effect) → Fits c.effect.result
-fits c = rw c.effect.ensures (effect_fits _ _ _ (good c).positions.bounded (start c).args.event)
+fits c = rw c.effect.ensures (effect_fits _ _ _ (bounded c) (start c).args.event)
 
 trade_type : (c : tie.After-next-record) → c.next-record.result < blotter_room
 trade_type c = rw c.next-record.ensures (next_record_within _)
@@ -49,17 +49,14 @@ element-copy-out-s c = search rules
 effect-requires : tie.Need-effect-requires
 effect-requires c κs = let n = c.before.before.before.before.before.before.series-of in rw (← n.ensures) (c.before.before.before.before.before.before.before.requires.tick n.result)
 
-interest-requires : tie.Need-interest-requires
-interest-requires c κs = let e = c.before.before in (fits e, (good e).positions.long, (good e).positions.bounded, (good e).interest)
-
 move-positions-requires : tie.Need-move-positions-requires
-move-positions-requires c κs = let e = c.before.before.before.before in (fits e, (good e).positions.bounded)
+move-positions-requires c κs = (fits c.before, bounded c.before)
 
 set-request-requires : tie.Need-set-request-requires
-set-request-requires c κs = fits c.before.before.before.before.before.before
+set-request-requires c κs = fits c.before.before.before
 
 set-decline-requires : tie.Need-set-decline-requires
-set-decline-requires c κs = fits c.before.before.before.before.before.before.before.before
+set-decline-requires c κs = fits c.before.before.before.before.before
 
 mark-requires : tie.Need-mark-requires
 mark-requires c κs = search rules
@@ -89,7 +86,7 @@ element-set-from-entry : tie.Need-element-set-from-entry
 element-set-from-entry c = trade_type c.before.before
 
 counted-requires : tie.Need-counted-requires
-counted-requires c κs = (start c.before.before.before.before.before.before.before.before.before.before.before.before.before).requires.trades
+counted-requires c κs = search rules
 
 answer-requires : tie.Need-answer-requires
 answer-requires c κs = search rules
@@ -99,14 +96,13 @@ returns-2 c =
     let entered = c.before.before in
     let recorded = entered.before.before in
     let marked = recorded.before in
-    let h = marked.before.before.before.before.before.before.before.before.before.before in
+    let h = marked.before.before.before.before.before.before.before in
     let s = start h in
     stepped s
     (step_stored s.args.t1 s.args.event _ _ h.before.before.before.before.before.before.before.series-of.ensures h.before.before.before.before.before.before.if1.false recorded.next-record.ensures _ h.effect.ensures
     (record {
       answer = c.answer.ensures;
       moved = marked.before.before.before.before.before.move-positions.ensures;
-      kept = marked.before.before.before.before.before.before.before.interest.ensures;
       requested = marked.before.before.before.set-request.ensures;
       declining = marked.before.set-decline.ensures;
       mark = marked.mark2.ensures;
@@ -124,7 +120,6 @@ step_spec =
     mul-s
     element-copy-out-s
     effect-requires
-    interest-requires
     move-positions-requires
     set-request-requires
     set-decline-requires

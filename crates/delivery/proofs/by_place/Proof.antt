@@ -16,13 +16,13 @@ use Rattle.delivery.proofs.by_place.Statement.{statement}
 use Rattle.delivery.proofs.by_place.Tie as tie
 
 abbrev invariant-loop : tie.invariant-loop
-invariant-loop option left positions exercised assigned remaining₀ arisen₀ place₀ remaining arisen place =
+invariant-loop option positions exercised assigned remaining₀ arisen₀ place₀ remaining arisen place =
     (place ≤ places) ×
     Filled places place remaining (pos 0) (λ k. shrunk (at positions k) (amount exercised k) (amount assigned k)) ×
     Filled places place arisen (pos 0) (λ k. futures option (amount exercised k) (amount assigned k))
 
 abbrev decreases-loop : tie.decreases-loop
-decreases-loop option left positions exercised assigned remaining₀ arisen₀ place₀ remaining arisen place = places - place
+decreases-loop option positions exercised assigned remaining₀ arisen₀ place₀ remaining arisen place = places - place
 
 -- ---- what the code asks, in its order
 
@@ -102,12 +102,7 @@ loop-again c =
     )
 
 returns : tie.Need-returns invariant-loop decreases-loop
-returns c =
-    λ i. record {
-      positions = filled_all c.before.loop.invariant.1 (omega arith) i;
-      futures = filled_all c.before.loop.invariant.2 (omega arith) i;
-      open_interest = c.before.before.args.left;
-    }
+returns c = λ i. record { positions = filled_all c.before.loop.invariant.1 (omega arith) i; futures = filled_all c.before.loop.invariant.2 (omega arith) i }
 
 pub by-place-spec : {M : Type 1} → statement M
 by-place-spec =

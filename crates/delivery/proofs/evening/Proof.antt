@@ -1,9 +1,8 @@
 -- `delivery::evening` meets its contract. Assumes nothing.
 use borrow.Author.Rules.{rules}
-use mathlib.Core.Path.{◌≡◌, ◌∙◌}
+use mathlib.Core.Path.{◌≡◌}
 use lib.ListN.{length}
 use Rattle.places.specs.Places.{places}
-use Rattle.exercise.proofs.Interest.{holders_writers}
 use Rattle.writers.proofs.Arrays as law
 use Rattle.delivery.proofs.evening.Statement.{statement}
 use Rattle.delivery.proofs.evening.Tie as tie
@@ -21,7 +20,7 @@ returns c =
     let e = c.before.total in
     let long : length s.args.positions ≡ places = search rules in
     law.nothing_done s.args.fixing s.args.positions s.args.requests s.args.declined s.requires.0
-    x.result e.result x.ensures e.ensures long c.if1.true s.args.interest s.requires.2
+    x.result e.result x.ensures e.ensures long c.if1.true
 
 assign-requires : tie.Need-assign-requires
 assign-requires c κs =
@@ -29,18 +28,9 @@ assign-requires c κs =
     let x = c.before.before.exercised-by-place in
     let e = c.before.total in (
       s.requires.0,
-      law.enough_held s.args.fixing s.args.positions s.args.requests s.args.declined s.requires.0
-          x.result e.result x.ensures e.ensures s.requires.1 s.args.interest s.requires.2,
-      s.requires.2 ∙ holders_writers s.args.positions s.requires.1,
+      law.enough s.args.fixing s.args.positions s.args.requests s.args.declined s.requires.0
+          x.result e.result x.ensures e.ensures s.requires.1,
     )
-
-sub-by-place : tie.Need-overflow-sub-by-place
-sub-by-place c =
-    let s = c.before.before.before.before in
-    let x = c.before.before.before.exercised-by-place in
-    let e = c.before.before.total in
-    law.enough_held s.args.fixing s.args.positions s.args.requests s.args.declined s.requires.0
-    x.result e.result x.ensures e.ensures s.requires.1 s.args.interest s.requires.2
 
 by-place-requires : tie.Need-by-place-requires
 by-place-requires c κs =
@@ -60,7 +50,7 @@ returns-2 c =
     let e = c.before.before.before.total in
     law.all_done s.args.fixing s.args.positions s.args.requests s.args.declined s.requires.0
     x.result e.result x.ensures e.ensures s.requires.1 c.before.assign.result c.before.assign.ensures
-    c.by_place.result s.args.interest s.requires.2 c.by_place.ensures
+    c.by_place.result c.by_place.ensures
 
 pub evening-spec : {M : Type 1} → statement M
 evening-spec =
@@ -70,6 +60,5 @@ evening-spec =
     total-requires
     returns
     assign-requires
-    sub-by-place
     by-place-requires
     returns-2)

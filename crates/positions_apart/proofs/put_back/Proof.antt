@@ -1,4 +1,4 @@
--- `positions_apart::put_back` meets its contract: the series passed have their positions and open interest back.
+-- `positions_apart::put_back` meets its contract: the series passed have their positions back.
 use borrow.Author.Rules.{rules}
 use mathlib.Core.Path.{refl}
 use Prim.Native.Nat.{◌-◌, ◌≤◌}
@@ -6,13 +6,14 @@ use native.Mathlib.Omega.{arith}
 use lib.ListN.{get_or}
 use Rattle.integer.proofs.Table.{Updated, updated_start, updated_next, updated_rest}
 use Rattle.terms.specs.Bounds.{series_room}
-use Rattle.book.specs.Apart.{held_at, with_held}
+use Rattle.series.specs.Series.{with_positions}
+use Rattle.book.specs.Apart.{held_at}
 use Rattle.book.specs.State.{no_series}
 use Rattle.positions_apart.proofs.put_back.Statement.{statement}
 use Rattle.positions_apart.proofs.put_back.Tie as tie
 
 abbrev invariant-loop : tie.invariant-loop
-invariant-loop series₀ held i₀ series i = (i ≤ series_room) × Updated series_room i series series₀ no_series (λ k. with_held (get_or series₀ k no_series) (held_at held k))
+invariant-loop series₀ held i₀ series i = (i ≤ series_room) × Updated series_room i series series₀ no_series (λ k. with_positions (get_or series₀ k no_series) (held_at held k).positions)
 
 abbrev decreases-loop : tie.decreases-loop
 decreases-loop series₀ held i₀ series i = series_room - i

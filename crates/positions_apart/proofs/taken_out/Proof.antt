@@ -1,4 +1,4 @@
--- `positions_apart::taken_out` meets its contract: the series passed have their positions and open interest in the array.
+-- `positions_apart::taken_out` meets its contract: the series passed have their positions in the array.
 use borrow.Author.Rules.{rules}
 use mathlib.Core.Path.{refl}
 use mathlib.Core.List.{[]}
@@ -7,17 +7,16 @@ use native.Mathlib.Omega.{arith}
 use lib.ListN.{get_or}
 use Rattle.integer.proofs.Table.{Filled, filled_start, filled_next, filled_all}
 use Rattle.terms.specs.Bounds.{series_room}
-use Rattle.book.specs.Apart.{held_of}
 use Rattle.book.specs.State.{no_series}
 use Rattle.book.specs.declared.state.Held.{Held}
 use Rattle.positions_apart.proofs.taken_out.Statement.{statement}
 use Rattle.positions_apart.proofs.taken_out.Tie as tie
 
 abbrev none : Held
-none = record { positions = []; open_interest = 0 }
+none = record { positions = [] }
 
 abbrev invariant-loop : tie.invariant-loop
-invariant-loop series out₀ i₀ out i = (i ≤ series_room) × Filled series_room i out none (λ k. held_of (get_or series k no_series))
+invariant-loop series out₀ i₀ out i = (i ≤ series_room) × Filled series_room i out none (λ k. record { positions = (get_or series k no_series).positions })
 
 abbrev decreases-loop : tie.decreases-loop
 decreases-loop series out₀ i₀ out i = series_room - i

@@ -4,13 +4,13 @@
 use Rattle.std.proofs.Common.{◌≡◌, ℕ, ◌+◌, ◌-◌, ◌<◌, ◌≤◌, Bool, List, length, drop, sym, refl, ap, ◌∙◌, subst, ap₂, arith, length-set, rules}
 use Rattle.contract.specs.declared.types.Date.{Date}
 use Rattle.calendar.specs.Days.{dates_of}
+use Rattle.integer.specs.Bounds.{Bounded}
 use Rattle.integer.proofs.Table.{length_table}
 use Rattle.terms.specs.Bounds.{series_room, blotter_room, max_position}
-use Rattle.exercise.specs.Interest.{held_in_all}
-use Rattle.series.specs.Good.{Balanced}
+use Rattle.series.specs.Series.{with_positions}
 use Rattle.series.specs.declared.state.Series.{Series}
-use Rattle.book.specs.Apart.{held_at, with_held, rejoined}
-use Rattle.book.specs.Effects.{Fits, effect_of, answer_by, positions_by, interest_by, requests_by, declines_by, mark_by, record_by, trades_by}
+use Rattle.book.specs.Apart.{held_at, rejoined}
+use Rattle.book.specs.Effects.{Fits, effect_of, answer_by, positions_by, requests_by, declines_by, mark_by, record_by, trades_by}
 use Rattle.book.specs.Good.{Good}
 use Rattle.book.specs.State.{series_at, trade_at, today_of, with_all_series}
 use Rattle.book.specs.Step.{step_of}
@@ -82,21 +82,18 @@ module _ (c : tie.After-known-told invariant-loop decreases-loop) where
   row = found _ _ _ c.before.before.before.series-row.ensures _ _ _ c.before.series.given.1
 
   -- its series, as it stands in the loop
-  its-series : series_at (now top) series-at ≡ with_held (series_at top.loop.book series-at) (held_at top.loop.held series-at)
+  its-series : series_at (now top) series-at ≡ with_positions (series_at top.loop.book series-at) (held_at top.loop.held series-at).positions
   its-series = series_rejoined top.loop.book top.loop.held series-at row.room
 
-  balanced : Balanced max_position (held_at top.loop.held series-at).positions
-  balanced = subst (λ (s : Series). Balanced max_position s.positions) its-series ((good top).series series-at row.room).positions
-
-  kept : (held_at top.loop.held series-at).open_interest ≡ held_in_all (held_at top.loop.held series-at).positions
-  kept = subst (λ (s : Series). s.open_interest ≡ held_in_all s.positions) its-series ((good top).series series-at row.room).interest
+  bounded : Bounded max_position (held_at top.loop.held series-at).positions
+  bounded = subst (λ (s : Series). Bounded max_position s.positions) its-series ((good top).series series-at row.room).positions.bounded
 
 -- where the effect of its event is known
 abbrev row_at : tie.After-effect invariant-loop decreases-loop → tie.After-known-told invariant-loop decreases-loop
 row_at c = c.before.before.before.before.before.before
 
 fits : (c : tie.After-effect invariant-loop decreases-loop) → Fits c.effect.result
-fits c = rw c.effect.ensures (effect_fits _ _ _ (balanced (row_at c)).bounded (event (row_at c)))
+fits c = rw c.effect.ensures (effect_fits _ _ _ (bounded (row_at c)) (event (row_at c)))
 
 effect_is : (c : tie.After-effect invariant-loop decreases-loop) → c.effect.result ≡ effect_at (now (top (row_at c))) (series-at (row_at c)) (event (row_at c))
 effect_is c =
@@ -254,17 +251,14 @@ effect-requires c κs =
     let tick = subst (λ (s : Series). series-at o < (top o).loop.book.listed → 0 < s.listing.tick) (its-series o) ((good (top o)).tick (series-at o)) in
     rw (← (row o).series) tick
 
-interest-requires : tie.Need-interest-requires invariant-loop decreases-loop
-interest-requires c κs = let e = c.before.before in (fits e, (balanced (row_at e)).long, (balanced (row_at e)).bounded, kept (row_at e))
-
 move-positions-requires : tie.Need-move-positions-requires invariant-loop decreases-loop
-move-positions-requires c κs = let e = c.before.before.before.before in (fits e, (balanced (row_at e)).bounded)
+move-positions-requires c κs = (fits c.before, bounded (row_at c.before))
 
 mul-held : tie.Need-overflow-mul-held invariant-loop decreases-loop
-mul-held c = omega (arith, (row (row_at c.before.before.before.before.before)).room)
+mul-held c = omega (arith, (row (row_at c.before.before)).room)
 
 array-set-from-held : tie.Need-array-set-from-held invariant-loop decreases-loop
-array-set-from-held c = (row (row_at c.before.before.before.before.before)).room
+array-set-from-held c = (row (row_at c.before.before)).room
 
 next-record-requires : tie.Need-next-record-requires invariant-loop decreases-loop
 next-record-requires c κs = search rules
@@ -285,7 +279,7 @@ element-set-from-entry : tie.Need-element-set-from-entry invariant-loop decrease
 element-set-from-entry c = record_within c.before.before
 
 counted-requires : tie.Need-counted-requires invariant-loop decreases-loop
-counted-requires c κs = (good (top (row_at c.before.before.before.before.before.before.before.before))).trades
+counted-requires c κs = (good (top (row_at c.before.before.before.before.before))).trades
 
 answer-requires : tie.Need-answer-requires invariant-loop decreases-loop
 answer-requires c κs = search rules
@@ -296,7 +290,7 @@ wrapping-add-u64-requires c κs = search rules
 
 put-answer-requires : tie.Need-put-answer-requires invariant-loop decreases-loop
 put-answer-requires c κs =
-    let r = (top (row_at c.before.before.before.before.before.before.before.before.before.before.before.before)).loop.inv.3.ready in
+    let r = (top (row_at c.before.before.before.before.before.before.before.before.before)).loop.inv.3.ready in
     (r.waiting, r.room)
 
 enum-told-3 : tie.Need-enum-told-3 invariant-loop decreases-loop
@@ -322,11 +316,8 @@ module _ (c : tie.After-slice-known3 invariant-loop decreases-loop) where
   abbrev moved : tie.After-move-positions invariant-loop decreases-loop
   moved = recorded.before
 
-  abbrev counts : tie.After-interest invariant-loop decreases-loop
-  counts = moved.before.before
-
   abbrev known : tie.After-effect invariant-loop decreases-loop
-  known = counts.before.before.before
+  known = moved.before.before
 
   abbrev o : tie.After-known-told invariant-loop decreases-loop
   o = row_at known
@@ -373,7 +364,6 @@ loop-again-2 c =
     traded_apart b held (series-at (o n)) (recorded n).next-record.result (l n).loop.invariant.1 (l n).loop.invariant.2 (row (o n)).room (event (o n))
     (row (o n)).series (recorded n).next-record.ensures t (sym told ∙ effect_is (known n))
     ((moved n).move-positions.ensures ∙ ap₂ positions_by told (ap (λ (s : Series). s.positions) (sym (its-series (o n)))))
-    ((counts n).interest.ensures ∙ (λ x. interest_by (told x) (sym (its-series (o n)) x).positions (sym (its-series (o n)) x).open_interest))
     ((entered n).entry.ensures ∙ ap (λ (f : Effect). record_by f (trade_at b (recorded n).next-record.result)) told)
     ((counted n).counted.ensures ∙ ap (λ (f : Effect). trades_by f b.trades) told)
     in (
@@ -423,7 +413,6 @@ loop-again-3 c =
     (record {
       answer = (count n).before.answer.ensures;
       moved = (moved n).move-positions.ensures ∙ ap (λ (x : Series). positions_by (known n).effect.result x.positions) s;
-      kept = (counts n).interest.ensures ∙ ap (λ (x : Series). interest_by (known n).effect.result x.positions x.open_interest) s;
       requested = c.before.before.before.set-request.ensures ∙ ap (λ (x : Series). requests_by (known n).effect.result x.requests) s;
       declining = c.before.set-decline.ensures ∙ ap (λ (x : Series). declines_by (known n).effect.result x.declined) s;
       mark = c.mark2.ensures ∙ ap (λ (x : Series). mark_by (known n).effect.result x.mark) s;
@@ -468,7 +457,6 @@ whole-rows-spec =
     mul-h
     array-copy-out-h
     effect-requires
-    interest-requires
     move-positions-requires
     mul-held
     array-set-from-held

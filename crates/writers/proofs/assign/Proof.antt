@@ -10,7 +10,7 @@ use Rattle.places.specs.Places.{places}
 use Rattle.exercise.specs.Exercise.{short}
 use Rattle.exercise.specs.Assignment.{assigned}
 use Rattle.exercise.proofs.Assigning.{none_assigned}
-use Rattle.writers.proofs.Arrays.{short_in_all_fits, shorts_in_all, shorts_assigned}
+use Rattle.writers.proofs.Arrays.{shorts_in_all, shorts_fit, shorts_assigned}
 use Rattle.writers.proofs.assign.Statement.{statement}
 use Rattle.writers.proofs.assign.Tie as tie
 
@@ -27,12 +27,7 @@ by-largest-remainders-requires : tie.Need-by-largest-remainders-requires
 by-largest-remainders-requires c κs =
     let p = c.before.before.args.positions in
     let w = c.short-by-place in
-    let s = c.before.before in (
-      omega arith,
-      s.requires.1,
-      omega (arith, s.requires.2, short_in_all_fits p s.requires.0),
-      s.requires.2 ∙ shorts_in_all p w.result w.ensures,
-    )
+    (omega arith, omega (arith, shorts_in_all p w.result w.ensures, c.before.before.requires.1), shorts_fit p w.result w.ensures c.before.before.requires.0)
 
 returns-2 : tie.Need-returns-2
 returns-2 c =

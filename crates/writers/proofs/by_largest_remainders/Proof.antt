@@ -8,10 +8,9 @@ use Prim.Native.Nat.{ℕ, ◌≤◌, ◌<◌, ◌-◌, ◌+◌}
 use native.Mathlib.Omega.{arith}
 use lib.Dec.{ltb}
 use Rattle.integer.specs.Sum.{sumℕ, bit, count}
-use Rattle.integer.proofs.NatSum.{sumℕ_ext, sumℕ_term}
+use Rattle.integer.proofs.NatSum.{sumℕ_term}
 use Rattle.integer.proofs.Count.{count_most}
 use Rattle.integer.specs.Table.{table}
-use Rattle.integer.proofs.Table.{get_or_table}
 use Rattle.exercise.specs.declared.types.Shares.{Shares}
 use Rattle.places.specs.Places.{places, amount}
 use Rattle.exercise.specs.Assignment.{whole_part, remainder, rank, assigned}
@@ -20,79 +19,71 @@ use Rattle.writers.proofs.by_largest_remainders.Statement.{statement}
 use Rattle.writers.proofs.by_largest_remainders.Tie as tie
 
 abbrev invariant-loop2 : tie.invariant-loop2
-invariant-loop2 exercised interest out rest left largest₀ place₀ counter largest place = (place ≤ places) × law.Largest place (amount rest) largest
+invariant-loop2 exercised out rest left largest₀ place₀ counter largest place = (place ≤ places) × law.Largest place (amount rest) largest
 
 abbrev decreases-loop2 : tie.decreases-loop2
-decreases-loop2 exercised interest out rest left largest₀ place₀ counter largest place = places - place
+decreases-loop2 exercised out rest left largest₀ place₀ counter largest place = places - place
 
 abbrev invariant-loop : tie.invariant-loop
-invariant-loop exercised interest out₀ rest₀ left counter₀ out rest counter = (counter ≤ left) × law.Served places (amount rest₀) (amount out₀) out rest counter
+invariant-loop exercised out₀ rest₀ left counter₀ out rest counter = (counter ≤ left) × law.Served places (amount rest₀) (amount out₀) out rest counter
 
 abbrev decreases-loop : tie.decreases-loop
-decreases-loop exercised interest out₀ rest₀ left counter₀ out rest counter = left - counter
+decreases-loop exercised out₀ rest₀ left counter₀ out rest counter = left - counter
+
+total-requires : tie.Need-total-requires invariant-loop2 decreases-loop2 invariant-loop decreases-loop
+total-requires c κs = search rules
 
 shares-requires : tie.Need-shares-requires invariant-loop2 decreases-loop2 invariant-loop decreases-loop
-shares-requires c κs = search rules
+shares-requires c κs = omega (arith, c.total.ensures)
+
+total-requires-2 : tie.Need-total-requires-2 invariant-loop2 decreases-loop2 invariant-loop decreases-loop
+total-requires-2 c κs = search rules
 
 -- what is known once the shares are worked out
-module _ (c : tie.After-shares invariant-loop2 decreases-loop2 invariant-loop decreases-loop) where
-  abbrev begin : tie.Start invariant-loop2 decreases-loop2 invariant-loop decreases-loop
-  begin = c.before
-
+module _ (c : tie.After-total2 invariant-loop2 decreases-loop2 invariant-loop decreases-loop) where
   abbrev e : ℕ
-  e = begin.args.exercised
+  e = c.before.before.before.before.before.args.exercised
 
   abbrev w : ℕ → ℕ
-  w = amount begin.args.shorts
-
-  -- what the writers are short in all
-  kept : begin.args.interest ≡ sumℕ places w
-  kept = begin.pre.3
+  w = amount c.before.before.before.before.before.args.shorts
 
   abbrev whole : List ℕ
-  whole = c.shares.result.whole
+  whole = c.before.before.before.shares.result.whole
 
   abbrev rest : List ℕ
-  rest = c.shares.result.remainder
+  rest = c.before.before.before.shares.result.remainder
 
   some : 0 < e
-  some = begin.pre.0
+  some = c.before.before.before.before.before.requires.0
 
   enough : e ≤ sumℕ places w
-  enough = omega (arith, kept, begin.pre.1)
+  enough = c.before.before.before.before.before.requires.1
 
   whole_is : whole ≡ table places (whole_part e (sumℕ places w) w)
-  whole_is = ap (λ (s : Shares). s.whole) c.shares.ensures ∙ ap (λ (o : ℕ). table places (whole_part e o w)) kept
+  whole_is = ap (λ (s : Shares). s.whole) c.before.before.before.shares.ensures ∙ ap (λ (o : ℕ). table places (whole_part e o w)) c.before.before.before.before.total.ensures
 
   rest-is : rest ≡ table places (remainder e (sumℕ places w) w)
-  rest-is = ap (λ (s : Shares). s.remainder) c.shares.ensures ∙ ap (λ (o : ℕ). table places (remainder e o w)) kept
+  rest-is = ap (λ (s : Shares). s.remainder) c.before.before.before.shares.ensures ∙ ap (λ (o : ℕ). table places (remainder e o w)) c.before.before.before.before.total.ensures
 
   in_all : sumℕ places (amount whole) ≤ e
   in_all = law.whole_most places e w whole rest some enough whole_is rest-is
 
-  -- what is given out as whole contracts
-  given_is : c.shares.result.given ≡ sumℕ places (amount whole)
-  given_is =
-      ap (λ (s : Shares). s.given) c.shares.ensures
-      ∙ ap (λ (o : ℕ). sumℕ places (whole_part e o w)) kept
-      ∙ sym (sumℕ_ext places (amount whole) (whole_part e (sumℕ places w) w) (λ k lt. ap (λ (l : List ℕ). amount l k) whole_is ∙ get_or_table places (whole_part e (sumℕ places w) w) k 0 lt))
-
-  left_few : e - c.shares.result.given ≤ count places (λ k. ltb 0 (amount rest k))
-  left_few = omega (arith, given_is, law.left_remainders places e w whole rest some enough whole_is rest-is)
+  left_few : e - c.total2.result ≤ count places (λ k. ltb 0 (amount rest k))
+  left_few = omega (arith, c.total2.ensures, law.left_remainders places e w whole rest some enough whole_is rest-is)
 
   start : law.Served places (amount rest) (amount whole) whole rest 0
   start = law.served_start places e w whole rest some enough whole_is rest-is
 
-  all : (out rest' : List ℕ) → law.Served places (amount rest) (amount whole) out rest' (e - c.shares.result.given) → out ≡ table places (assigned places e w)
+  all : (out rest' : List ℕ) → law.Served places (amount rest) (amount whole) out rest' (e - c.total2.result) → out ≡ table places (assigned places e w)
   all out rest' S =
       law.all_served places e w whole rest some enough whole_is rest-is out rest'
-      (subst (λ (t : ℕ). law.Served places (amount rest) (amount whole) out rest' (e - t)) given_is S)
+      (subst (λ (t : ℕ). law.Served places (amount rest) (amount whole) out rest' (e - t)) c.total2.ensures S)
 
 sub-left : tie.Need-overflow-sub-left invariant-loop2 decreases-loop2 invariant-loop decreases-loop
-sub-left c = let b = c.before.before.before in omega (arith, in_all b, given_is b)
+sub-left c = omega (arith, in_all c, c.total2.ensures)
 
 loop-holds : tie.Need-loop-init invariant-loop2 decreases-loop2 invariant-loop decreases-loop
-loop-holds c = (omega arith, start c.before.before.before)
+loop-holds c = (omega arith, start c)
 
 loop2-holds : tie.Need-loop2-init invariant-loop2 decreases-loop2 invariant-loop decreases-loop
 loop2-holds c = (omega arith, law.largest_start _)
@@ -129,8 +120,8 @@ loop2-again c =
 
 -- the place found is the next to be served
 module _ (c : tie.After-loop2 invariant-loop2 decreases-loop2 invariant-loop decreases-loop) where
-  abbrev ready : tie.After-shares invariant-loop2 decreases-loop2 invariant-loop decreases-loop
-  ready = c.before.before.before.before.before.before.before
+  abbrev ready : tie.After-total2 invariant-loop2 decreases-loop2 invariant-loop decreases-loop
+  ready = c.before.before.before.before
 
   found : law.Largest places (amount c.before.before.before.loop.rest) c.before.loop2.largest
   found =
@@ -160,8 +151,8 @@ add-out c =
       ap bit (le-ltb (rank places (amount (rest b)) m) l.counter (omega (arith, next c))),
       sumℕ_term places (amount (whole b)) m (found c).below,
       in_all b,
-      given_is b,
-      (begin b).pre,
+      b.total2.ensures,
+      b.before.before.before.before.before.pre,
     )
 
 array-write-out : tie.Need-array-write-out invariant-loop2 decreases-loop2 invariant-loop decreases-loop
@@ -174,7 +165,7 @@ array-write-rest : tie.Need-array-write-rest invariant-loop2 decreases-loop2 inv
 array-write-rest c = (found c).below
 
 add-counter : tie.Need-overflow-add-counter invariant-loop2 decreases-loop2 invariant-loop decreases-loop
-add-counter c = omega (arith, (begin (ready c)).pre)
+add-counter c = omega (arith, (ready c).before.before.before.before.before.requires)
 
 loop-less : tie.Need-loop-smaller invariant-loop2 decreases-loop2 invariant-loop decreases-loop
 loop-less c = omega arith
@@ -187,9 +178,9 @@ loop-again c =
 
 returns : tie.Need-returns invariant-loop2 decreases-loop2 invariant-loop decreases-loop
 returns c =
-    let b = c.before.before.before.before.before in
+    let b = c.before.before in
     let l = c.before.loop in
-    let end : l.counter ≡ e b - b.shares.result.given = omega arith in
+    let end : l.counter ≡ e b - b.total2.result = omega arith in
     all b l.out l.rest (rw end at l.invariant.1)
 
 pub by-largest-remainders-spec : {M : Type 1} → statement M
@@ -200,7 +191,9 @@ by-largest-remainders-spec =
     decreases-loop2
     invariant-loop
     decreases-loop
+    total-requires
     shares-requires
+    total-requires-2
     sub-left
     loop-holds
     loop2-holds

@@ -7,8 +7,6 @@ use Prim.Native.Nat.{ℕ, ◌≤◌, ◌-◌, ◌*◌, ◌/◌, ◌%◌}
 use native.Mathlib.Nat.{mul-le-mul, mul-le-mul_right, mod-lt, div-le_of_le-mul, mul-zero, zero-div, zero-mod}
 use native.Mathlib.Omega.{arith}
 use lib.ListN.{get_or, replicate, get_or-replicate}
-use Rattle.integer.specs.Sum.{sumℕ}
-use Rattle.integer.proofs.NatSum.{sumℕ_zero, sumℕ_next}
 use Rattle.integer.proofs.Table.{Updated, updated_start, updated_next, updated_skip, updated_rest}
 use Rattle.places.specs.Places.{places, amount}
 use Rattle.exercise.specs.Assignment.{whole_part, remainder}
@@ -20,18 +18,16 @@ abbrev none : List ℕ
 none = replicate places 0
 
 abbrev invariant-loop : tie.invariant-loop
-invariant-loop exercised interest shorts whole₀ rest₀ given₀ place₀ whole rest given place =
+invariant-loop exercised interest shorts whole₀ rest₀ place₀ whole rest place =
     (place ≤ places) ×
     Updated places place whole none 0 (whole_part exercised interest (amount shorts)) ×
-    Updated places place rest none 0 (remainder exercised interest (amount shorts)) ×
-    (given ≡ sumℕ place (whole_part exercised interest (amount shorts))) ×
-    (given ≤ place * 4294967295)
+    Updated places place rest none 0 (remainder exercised interest (amount shorts))
 
 abbrev decreases-loop : tie.decreases-loop
-decreases-loop exercised interest shorts whole₀ rest₀ given₀ place₀ whole rest given place = places - place
+decreases-loop exercised interest shorts whole₀ rest₀ place₀ whole rest place = places - place
 
 loop-holds : tie.Need-loop-init invariant-loop decreases-loop
-loop-holds c = (omega arith, updated_start _ 0 _ refl, updated_start _ 0 _ refl, sym (sumℕ_zero _), omega arith)
+loop-holds c = (omega arith, updated_start _ 0 _ refl, updated_start _ 0 _ refl)
 
 mul-if1 : tie.Need-overflow-mul-if1 invariant-loop decreases-loop
 mul-if1 c = search rules
@@ -65,8 +61,8 @@ whole-few c = div-le_of_le-mul c.before.before.before.before.args.interest (mul-
 mul-product : tie.Need-overflow-mul-product invariant-loop decreases-loop
 mul-product c = record { fits = omega (arith, mul-le-mul (few c) c.wide.ensures.1) }
 
-div-contracts : tie.Need-nonzero-div-contracts invariant-loop decreases-loop
-div-contracts c = search rules
+div-whole : tie.Need-nonzero-div-whole invariant-loop decreases-loop
+div-whole c = search rules
 
 cast-whole : tie.Need-overflow-cast-whole invariant-loop decreases-loop
 cast-whole c = record { fits = omega (arith, whole-few c, c.wide.ensures.1) }
@@ -89,9 +85,6 @@ mul-rest c = search rules
 array-write-rest : tie.Need-array-write-rest invariant-loop decreases-loop
 array-write-rest c = search rules
 
-add-given : tie.Need-overflow-add-given invariant-loop decreases-loop
-add-given c = omega (arith, whole-few c, c.wide.ensures.1, c.before.before.before.loop.invariant.4)
-
 add-place : tie.Need-overflow-add-place invariant-loop decreases-loop
 add-place c = search rules
 
@@ -104,35 +97,23 @@ loop-again c =
     let l = c.before.before in
     let a = l.before.args in
     let zero : get_or none l.loop.place 0 ≡ 0 = get_or-replicate places l.loop.place 0 0 c.before.loop-test.true in
-    let more = sumℕ_next l.loop.place (whole_part a.exercised a.interest (amount a.t3)) in
     ⊎_elim
     (λ t.
-    let w = t.1.ensures.0 in
-    let part = ap (λ (x : ℕ). a.exercised * x / a.interest) w in (
+    let w = t.1.ensures.0 in (
       omega arith,
-      rw t.2 (updated_next l.loop.invariant.1 (omega arith) _ part),
+      rw t.2 (updated_next l.loop.invariant.1 (omega arith) _ (ap (λ (x : ℕ). a.exercised * x / a.interest) w)),
       rw t.3 (updated_next l.loop.invariant.2 (omega arith) _ (ap (λ (x : ℕ). a.exercised * x % a.interest) w)),
-      rw t.4 (omega (arith, l.loop.invariant.3, more, part)),
-      rw t.4 (omega (arith, l.loop.invariant.4, t.1.ensures.1, div-le_of_le-mul a.interest (mul-le-mul_right t.1.result l.before.requires.1))),
     ))
-    (λ t.
-    let none-of-it = no_part a.exercised a.interest _ t.0.left in (
+    (λ t. (
       omega arith,
-      rw t.1 (updated_skip l.loop.invariant.1 (zero ∙ none-of-it)),
+      rw t.1 (updated_skip l.loop.invariant.1 (zero ∙ no_part a.exercised a.interest _ t.0.left)),
       rw t.2 (updated_skip l.loop.invariant.2 (zero ∙ no-remainder a.exercised a.interest _ t.0.left)),
-      rw t.3 (omega (arith, l.loop.invariant.3, more, none-of-it)),
-      rw t.3 (omega (arith, l.loop.invariant.4)),
     ))
     c.if1.branch
 
 returns : tie.Need-returns invariant-loop decreases-loop
 returns c =
-    let end : c.before.loop.place ≡ places = omega arith in
-    λ i. record {
-      whole = updated_rest c.before.loop.invariant.1 (λ k le lt. absurd (omega arith)) i;
-      remainder = updated_rest c.before.loop.invariant.2 (λ k le lt. absurd (omega arith)) i;
-      given = (rw end at c.before.loop.invariant.3) i;
-    }
+    λ i. record { whole = updated_rest c.before.loop.invariant.1 (λ k le lt. absurd (omega arith)) i; remainder = updated_rest c.before.loop.invariant.2 (λ k le lt. absurd (omega arith)) i }
 
 pub shares-spec : {M : Type 1} → statement M
 shares-spec =
@@ -147,7 +128,7 @@ shares-spec =
     array-read-wide
     wide-requires
     mul-product
-    div-contracts
+    div-whole
     cast-whole
     mul-whole
     array-write-whole
@@ -155,7 +136,6 @@ shares-spec =
     cast-rest
     mul-rest
     array-write-rest
-    add-given
     add-place
     loop-less
     loop-again

@@ -1,4 +1,4 @@
--- `delivery::total` meets its contract: the sum so far is that of the places passed. Assumes nothing.
+-- `writers::sum::total` meets its contract: the sum so far is that of the places passed. Assumes nothing.
 use borrow.Author.Rules.{rules}
 use mathlib.Core.Path.{◌≡◌, sym, ap, ◌∙◌}
 use Prim.Native.Nat.{ℕ, ◌≤◌, ◌-◌, ◌*◌}
@@ -6,14 +6,14 @@ use native.Mathlib.Omega.{arith}
 use Rattle.integer.specs.Sum.{sumℕ}
 use Rattle.integer.proofs.NatSum.{sumℕ_zero, sumℕ_next}
 use Rattle.places.specs.Places.{places, amount}
-use Rattle.delivery.proofs.total.Statement.{statement}
-use Rattle.delivery.proofs.total.Tie as tie
+use Rattle.writers.proofs.sum.total.Statement.{statement}
+use Rattle.writers.proofs.sum.total.Tie as tie
 
 abbrev invariant-loop : tie.invariant-loop
-invariant-loop exercised sum₀ place₀ sum place = (place ≤ places) × (sum ≡ sumℕ place (amount exercised)) × (sum ≤ place * 4294967295)
+invariant-loop numbers sum₀ place₀ sum place = (place ≤ places) × (sum ≡ sumℕ place (amount numbers)) × (sum ≤ place * 4294967295)
 
 abbrev decreases-loop : tie.decreases-loop
-decreases-loop exercised sum₀ place₀ sum place = places - place
+decreases-loop numbers sum₀ place₀ sum place = places - place
 
 loop-holds : tie.Need-loop-init invariant-loop decreases-loop
 loop-holds c = (omega arith, sym (sumℕ_zero _), omega arith)
