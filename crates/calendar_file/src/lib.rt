@@ -1,4 +1,5 @@
 // The file of the trading calendar, in the folder that the program runs in.
+#![tactic(auto)]
 ghost use Rattle.std.specs.Prelude.{◌+◌, ◌<◌, ◌≡◌, length};
 ghost use Rattle.calendar.specs.Text.{max_text};
 ghost use Rattle.calendar.specs.File.{InBuffer, LoadedFrom, LoadedBy, Loaded, max_path, path_of};

@@ -1,4 +1,5 @@
 // What the holders of a series exercise.
+#![tactic(auto)]
 ghost use Rattle.std.specs.Prelude.{◌≡◌, min, max};
 ghost use Rattle.integer.specs.Table.{at, table};
 ghost use Rattle.places.specs.Places.{places, amount, flag};

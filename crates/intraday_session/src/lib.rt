@@ -1,4 +1,5 @@
 // What an intraday session does, once it is allowed.
+#![tactic(auto)]
 ghost use Rattle.std.specs.Prelude.{◌≡◌};
 ghost use Rattle.book.specs.Good.{Good};
 ghost use Rattle.book.specs.Step as rule;

@@ -1,4 +1,5 @@
 // A number without its sign.
+#![tactic(auto)]
 ghost use Rattle.std.specs.Prelude.{◌≡◌, ◌^◌, ◌≤◌, nat_abs};
 
 pub fn magnitude(x: i64) -> u64

@@ -1,1 +1,2 @@
 // The output lines of one row: the rules.
+#![tactic(auto)]

@@ -1,4 +1,5 @@
 // The event that a row says.
+#![tactic(auto)]
 mod kind; // kind.rt: each kind of row
 
 ghost use Rattle.std.specs.Prelude.{◌≡◌};

@@ -1,4 +1,5 @@
 // The rows of a buffer: events on one series are carried out in the book where it stands.
+#![tactic(auto)]
 ghost use Rattle.calendar.specs.Days.{dates_of};
 ghost use Rattle.stream.specs.Output.{Ready};
 ghost use Rattle.stream.specs.Parts.{AllPassed};

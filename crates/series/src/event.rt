@@ -3,7 +3,7 @@
 use terms::{Category, OptionType};
 
 // A series to be listed.
-#[derive(Drop)]
+#[derive(Clone, Copy)]
 pub struct NewSeries {
     pub option: OptionType,
     pub category: Category,
@@ -13,7 +13,7 @@ pub struct NewSeries {
 }
 
 // A trade to be made.
-#[derive(Drop)]
+#[derive(Clone, Copy)]
 pub struct Deal {
     pub series: u8,
     pub buyer: u8,
@@ -25,7 +25,7 @@ pub struct Deal {
 }
 
 // A request to exercise, for a section of an account.
-#[derive(Drop)]
+#[derive(Clone, Copy)]
 pub struct Request {
     pub series: u8,
     pub account: u8,
@@ -34,7 +34,7 @@ pub struct Request {
 }
 
 // A holder's refusal of exercise, for a section of an account.
-#[derive(Drop)]
+#[derive(Clone, Copy)]
 pub struct Waiver {
     pub series: u8,
     pub account: u8,
@@ -42,7 +42,7 @@ pub struct Waiver {
 }
 
 // The settlement prices of a series' option and future, and its tick value.
-#[derive(Drop)]
+#[derive(Clone, Copy)]
 pub struct Quote {
     pub series: u8,
     pub option: u64,

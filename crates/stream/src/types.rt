@@ -1,7 +1,7 @@
 use book::state::{Book, Event};
 
 // The book, the rows answered so far, the bytes of output that wait to be written, and whether no write before them failed.
-#[derive(Drop)]
+#[derive(Clone, Copy)]
 pub struct Replay {
     pub book: Book,
     pub row: u64,
@@ -10,21 +10,21 @@ pub struct Replay {
 }
 
 // What waits of the output, and whether no write before it failed.
-#[derive(Drop)]
+#[derive(Clone, Copy)]
 pub struct Waiting {
     pub at: usize,
     pub intact: bool,
 }
 
 // The replay after the whole rows of a buffer, and where the unfinished row starts.
-#[derive(Drop)]
+#[derive(Clone, Copy)]
 pub struct Passed {
     pub replay: Replay,
     pub from: usize,
 }
 
 // The next row of a buffer: an event on one series, and where the row after it starts; or another row, or none that ends.
-#[derive(Drop)]
+#[derive(Clone, Copy)]
 pub enum SeriesRow {
     OnSeries {
         series: usize,
@@ -35,7 +35,7 @@ pub enum SeriesRow {
 }
 
 // What a read gave: input up to a place of the buffer, its end, or an error.
-#[derive(Drop)]
+#[derive(Clone, Copy)]
 pub enum Input {
     UpTo(usize),
     Ended,
@@ -43,7 +43,7 @@ pub enum Input {
 }
 
 // The replay, how many bytes of an unfinished row are kept at the buffer's front, and whether there is more to read.
-#[derive(Drop)]
+#[derive(Clone, Copy)]
 pub struct Run {
     pub replay: Replay,
     pub have: usize,

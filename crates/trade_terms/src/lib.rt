@@ -1,4 +1,5 @@
 // The quantity and the price of a trade.
+#![tactic(auto)]
 ghost use Rattle.std.specs.Prelude.{◌≡◌, ◌<◌};
 ghost use Rattle.book.specs.Verdicts as rule;
 
