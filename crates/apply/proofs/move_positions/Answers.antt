@@ -1,0 +1,17 @@
+-- `apply::move_positions` meets its contract.
+use mathlib.Core.Path.{refl}
+use Rattle.book.proofs.Effects.{fits_trade}
+use borrow.Author.Rules.{rules}
+use Rattle.apply.proofs.Others.{not_moved}
+use Rattle.apply.proofs.move_positions.Goals as goal
+
+pub trade-requires : goal.trade-requires
+trade-requires c =
+    let s = c.before.before.before.before in
+    (fits_trade (rw c.in-Traded.is at s.requires.0), s.requires.1)
+
+pub returns-in-Traded : goal.returns-in-Traded
+returns-in-Traded c = rw c.in-Traded.is c.trade.ensures
+
+pub returns-in_default : goal.returns-in_default
+returns-in_default c = not_moved c.args.effect _ c.match.keys2

@@ -1,0 +1,11 @@
+-- `buffers::without_rows` meets its contract.
+use borrow.Author.Rules.{rules}
+use mathlib.Core.Path.{refl}
+use native.Mathlib.Omega.{arith}
+use Rattle.stream.proofs.Lines.{put_behind}
+use Rattle.buffers.proofs.without_rows.Goals as goal
+
+pub returns : goal.returns
+returns c =
+    let n = c.no_calendar-next.ensures in
+    (omega (arith, n.1), put_behind n.0 (search rules), refl)

@@ -1,0 +1,13 @@
+use borrow.Author.Rules.{rules}
+use Prim.Native.Nat.{ℕ, ◌-◌, ◌≤◌}
+use native.Mathlib.Omega.{arith}
+use lib.ListN.{length-replicate}
+use Rattle.calendar.specs.Days.{max_dates}
+use Rattle.calendar.proofs.Steps.{Reached, reached_start, reached_end, reached_full, reached_undated, reached_falling, reached_next, line_digits}
+use Rattle.calendar_reader.proofs.read.Given as goal
+
+abbrev pub invariant-loop-at : goal.invariant-loop-at
+invariant-loop-at l = Reached l.text l.numbers l.n l.before l.at
+
+abbrev pub decreases-loop-at : goal.decreases-loop-at
+decreases-loop-at l = max_dates - l.n

@@ -1,0 +1,17 @@
+-- `clearing::empty` meets its contract.
+use mathlib.Core.Path.{◌≡◌, sym, subst}
+use lib.ListN.{replicate}
+use Rattle.terms.specs.Bounds.{series_room}
+use Rattle.book.specs.Good.{Good}
+use Rattle.book.specs.State.{empty_book, with_all_series}
+use Rattle.book.specs.declared.state.Book.{Book}
+use Rattle.book.proofs.KeepsEmpty.{good_empty}
+use borrow.Author.Rules.{rules}
+use Rattle.clearing.proofs.empty.Goals.{After-new_series-blank}
+use Rattle.clearing.proofs.empty.Goals as goal
+
+is-empty : (c : After-new_series-blank) → with_all_series empty_book (replicate series_room c.new_series_lem.result) ≡ empty_book
+is-empty c = λ i. with_all_series empty_book (replicate series_room (c.new_series_lem.ensures i))
+
+pub returns : goal.returns
+returns c = (is-empty c, subst (λ (b : Book). Good b) (sym (is-empty c)) good_empty)

@@ -1,0 +1,7 @@
+-- `code::verdict` meets its contract.
+use borrow.Author.Rules.{rules}
+use Rattle.contract.proofs.Steps.{verdict_of_lem}
+use Rattle.code.proofs.verdict.Goals as goal
+
+pub returns : goal.returns
+returns c = search verdict_of_lem

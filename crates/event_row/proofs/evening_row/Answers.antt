@@ -1,0 +1,21 @@
+-- `event_row::evening_row` meets its contract: the lines are those of the report.
+use mathlib.Core.Path.{refl, ap}
+use Rattle.book.specs.declared.state.Event.TheVariants.{Evening}
+use Rattle.book.specs.declared.state.Step.{Step}
+use Rattle.book.proofs.Keeps.{stays_good}
+use borrow.Author.Rules.{rules}
+use Rattle.event_row.proofs.evening_row.Goals as goal
+
+pub returns : goal.returns
+returns c =
+    let b = c.before.before.before.before.before.before.before.before in
+    let s = c.evening-step in
+    let p = c.report-next.ensures in
+    record {
+      good = stays_good b.args.book Evening s.result b.requires.0 s.ensures;
+      book = ap (λ (x : Step). x.book) s.ensures;
+      number = refl;
+      lines = rw (← s.ensures) p.0;
+      room = p.1;
+      intact = refl;
+    }

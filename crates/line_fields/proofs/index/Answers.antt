@@ -1,0 +1,13 @@
+-- `line_fields::index` meets its contract.
+use native.Mathlib.Omega.{arith}
+use borrow.Author.Rules.{rules}
+use Rattle.report.proofs.Fields.{byte_length}
+use Rattle.line_fields.proofs.index.Goals as goal
+
+pub digits-requires : goal.digits-requires
+digits-requires c = omega (arith, byte_length c.args.i (search rules))
+
+pub returns : goal.returns
+returns c =
+    let call = c.before.before in
+    (call.digits.ensures, omega (arith, call.digits.ensures.place, byte_length call.args.i (search rules)))

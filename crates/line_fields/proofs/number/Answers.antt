@@ -1,0 +1,13 @@
+-- `line_fields::number` meets its contract.
+use native.Mathlib.Omega.{arith}
+use borrow.Author.Rules.{rules}
+use Rattle.report.proofs.Fields.{row_length}
+use Rattle.line_fields.proofs.number.Goals as goal
+
+pub digits-requires : goal.digits-requires
+digits-requires c = omega (arith, row_length c.args.n (search rules))
+
+pub returns : goal.returns
+returns c =
+    let call = c.before.before in
+    (call.digits.ensures, omega (arith, call.digits.ensures.place, row_length call.args.n (search rules)))

@@ -1,0 +1,17 @@
+-- `list_row::dated_listing` meets its contract.
+use borrow.Author.Rules.{rules}
+use Rattle.rows.proofs.Readers.{code_terms, code_refused, day_on, day_none}
+use Rattle.rows.specs.Row.{dated_listing}
+use Rattle.list_row.proofs.dated_listing.Goals as goal
+
+pub returns-in_default : goal.returns-in_default
+unfolding dated_listing
+returns-in_default c = search (code_terms, code_refused, day_on, day_none) depth 12
+
+pub returns-in-NoCode : goal.returns-in-NoCode
+unfolding dated_listing
+returns-in-NoCode c = search (code_terms, code_refused, day_on, day_none) depth 12
+
+pub returns-in-On : goal.returns-in-On
+unfolding dated_listing
+returns-in-On c = search (code_terms, code_refused, day_on, day_none) depth 12

@@ -1,0 +1,5 @@
+use borrow.Author.Rules.{rules}
+use Rattle.listing.proofs.change.new_series.Goals as goal
+
+pub returns : goal.returns
+returns c = cc

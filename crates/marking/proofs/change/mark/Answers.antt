@@ -1,0 +1,5 @@
+use borrow.Author.Rules.{rules}
+use Rattle.marking.proofs.change.mark.Goals as goal
+
+pub returns : goal.returns
+returns c = cc

@@ -1,0 +1,4 @@
+use Rattle.marking.proofs.change.no_mark.Goals as goal
+
+pub returns : goal.returns
+returns c = cc

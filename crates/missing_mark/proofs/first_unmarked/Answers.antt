@@ -1,0 +1,40 @@
+-- `missing_mark::first_unmarked` meets its contract: what the search from i on finds is what the whole search finds.
+use borrow.Author.Rules.{rules}
+use mathlib.Core.Path.{◌≡◌, sym, ◌∙◌}
+use mathlib.Core.Logic.{⊎_elim}
+use Prim.Native.Nat.{◌-◌, ◌≤◌}
+use native.Mathlib.Omega.{arith}
+use Rattle.book.specs.Verdicts.{first_from}
+use Rattle.book.proofs.Search.{unmarked_here, marked_here, expired_here, search_ends, search_starts}
+use Rattle.missing_mark.proofs.first_unmarked.Goals as goal
+
+pub loop-i-init : goal.loop-i-init
+loop-i-init c = (omega arith, search_starts c.args.book)
+
+pub offset_bounds-book-i : goal.offset_bounds-book-i
+offset_bounds-book-i c = omega (arith, c.requires.listed)
+
+pub bounds-book-i : goal.bounds-book-i
+bounds-book-i c = omega (arith, c.requires.listed)
+
+pub overflow_cast-found : goal.overflow_cast-found
+overflow_cast-found c = omega (arith, c.if-book-i.false, c.requires.listed)
+
+pub loop-i-preserved : goal.loop-i-preserved
+loop-i-preserved c =
+    let e = c.before.before.before in
+    let l = e.before in
+    ⊎_elim
+    (λ w. (omega (arith, e.if-book-i.false), l.loop-i.invariant.1 ∙ marked_here l.args.book l.loop-i.i e.if-book-i.false w.0.taken w.2.left))
+    (λ w. (omega (arith, e.if-book-i.false), l.loop-i.invariant.1 ∙ expired_here l.args.book l.loop-i.i e.if-book-i.false w.left))
+    c.if-book-s.branch
+
+pub returns-then-book-i : goal.returns-then-book-i
+returns-then-book-i c = sym (c.loop-i.invariant.1 ∙ search_ends c.args.book c.loop-i.i c.if-book-i.true)
+
+pub returns-then-not-s : goal.returns-then-not-s
+returns-then-not-s c =
+    let t = c.before.before in
+    let e = t.before.before.before in
+    let l = e.before in
+    sym (l.loop-i.invariant.1 ∙ unmarked_here l.args.book l.loop-i.i e.if-book-i.false t.if-book-s.true c.if-not-s.true)

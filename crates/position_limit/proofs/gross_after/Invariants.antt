@@ -1,0 +1,35 @@
+use borrow.Author.Rules.{rules}
+use mathlib.Core.Path.{◌≡◌, sym, ap, subst, ◌∙◌}
+use mathlib.Core.List.{List}
+use Prim.Native.Nat.{ℕ, ◌+◌, ◌*◌, ◌-◌, ◌≤◌}
+use native.Mathlib.Omega.{arith}
+use lib.Dec.{eqb}
+use lib.IntN.{ℤ, pos, nat_abs, ◌+ℤ◌}
+use mir.Syntax.{w32, w64}
+use mir.Val.{to_z, of_z}
+use Rattle.choice.specs.Choice.{choose}
+use Rattle.integer.specs.Bounds.{Within}
+use Rattle.integer.proofs.Machine.{Reads, same, any, plus, local, fits}
+use Rattle.integer.specs.Sum.{sumℕ}
+use Rattle.integer.proofs.NatSum.{sumℕ_zero, sumℕ_next}
+use Rattle.integer.specs.Table.{at}
+use Rattle.places.specs.Places.{sections, place_in}
+use Rattle.terms.specs.Bounds.{max_quantity}
+use Rattle.series.proofs.Limit.{gross_after_sum}
+use Rattle.book.proofs.Revaluation.{choice_small}
+use Rattle.position_limit.proofs.gross_after.Given as goal
+
+-- a position of 32 bits, once a trade has changed it
+abbrev pub most : ℕ
+most = 2147484648
+
+-- what section s has once the change has come
+abbrev pub has : List ℤ → ℕ → ℕ → ℤ → ℕ → ℤ
+has positions account section change s = at positions (place_in account s) +ℤ choose (eqb s section) change (pos 0)
+
+abbrev pub invariant-loop-s : goal.invariant-loop-s
+invariant-loop-s l =
+    (l.s ≤ sections) × (l.gross ≡ sumℕ l.s (λ t. nat_abs (has l.positions l.account l.section (l.change) t))) × (l.gross ≤ l.s * most)
+
+abbrev pub decreases-loop-s : goal.decreases-loop-s
+decreases-loop-s l = sections - l.s

@@ -1,0 +1,17 @@
+use borrow.Author.Rules.{rules}
+use mathlib.Core.Path.{refl}
+use Prim.Native.Nat.{◌-◌, ◌≤◌}
+use native.Mathlib.Omega.{arith}
+use lib.ListN.{get_or}
+use Rattle.integer.proofs.Table.{Updated, updated_start, updated_next, updated_rest}
+use Rattle.terms.specs.Bounds.{series_room}
+use Rattle.series.specs.Series.{with_positions}
+use Rattle.book.specs.Apart.{held_at}
+use Rattle.book.specs.State.{no_series}
+use Rattle.positions_apart.proofs.put_back.Given as goal
+
+abbrev pub invariant-loop-i : goal.invariant-loop-i
+invariant-loop-i l = (l.i ≤ series_room) × Updated series_room l.i l.series l.initial.series no_series (λ k. with_positions (get_or l.initial.series k no_series) (held_at l.held k).positions)
+
+abbrev pub decreases-loop-i : goal.decreases-loop-i
+decreases-loop-i l = series_room - l.i

@@ -1,0 +1,12 @@
+-- `requests::effect::decline` meets its contract: the effect by the verdict.
+use mathlib.Core.Path.{refl}
+use Rattle.book.proofs.Effects.{effect_refused, effect_allowed}
+use Rattle.book.proofs.Decided.{verdict_is}
+use borrow.Author.Rules.{rules}
+use Rattle.requests.proofs.effect.decline.Goals as goal
+
+pub returns-in-Refused : goal.returns-in-Refused
+returns-in-Refused c = effect_refused _ refl (verdict_is c.decline_verdict.ensures c.in-Refused.is)
+
+pub returns : goal.returns
+returns c = effect_allowed _ refl (verdict_is c.decline_verdict.ensures c.in_default.is)

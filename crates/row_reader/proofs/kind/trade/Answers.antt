@@ -1,0 +1,41 @@
+-- `row_reader::kind::trade` meets its contract.
+use borrow.Author.Rules.{rules}
+use Rattle.rows.proofs.Fields.{byte_value}
+use Rattle.rows.proofs.Readers.{fields}
+use Rattle.rows.specs.Row.{trade_row}
+use Rattle.row_reader.proofs.kind.trade.Goals.{After-at_end, In-Byte}
+use Rattle.row_reader.proofs.kind.trade.Goals as goal
+
+-- the place behind the first field, from the row's end: `search` does not reach so far back
+module _ (c : After-at_end) where
+  abbrev first : In-Byte
+  first = c.before.before.before.before.before.before.before.before.before.before.before.before.before.before.before.before.before.before.before.before.before
+
+pub returns-in_default : goal.returns-in_default
+unfolding trade_row
+returns-in_default c = search fields depth 12
+
+pub returns-in_default-byte : goal.returns-in_default-byte
+unfolding trade_row
+returns-in_default-byte c = search fields depth 12
+
+pub returns-in_default-byte-2 : goal.returns-in_default-byte-2
+unfolding trade_row
+returns-in_default-byte-2 c = search fields depth 12
+
+pub returns-in_default-number : goal.returns-in_default-number
+unfolding trade_row
+returns-in_default-number c = search fields depth 12
+
+pub returns-in_default-number-2 : goal.returns-in_default-number-2
+unfolding trade_row
+returns-in_default-number-2 c = search fields depth 12
+
+pub returns-in_default-sections : goal.returns-in_default-sections
+unfolding trade_row
+returns-in_default-sections c = search fields depth 12
+
+pub returns : goal.returns
+unfolding trade_row
+returns c =
+    byte_value _ _ _ _ _ _ _ (first c).byte.ensures (first c).series-1.given.1 (search fields depth 12)

@@ -1,0 +1,8 @@
+-- `scan::digit_at` meets its contract.
+use mathlib.Core.Path.{sym}
+use borrow.Author.Rules.{rules}
+use Rattle.decimal.proofs.Digits.{no_digit}
+use Rattle.scan.proofs.digit_at.Goals as goal
+
+pub returns-else-at-s : goal.returns-else-at-s
+returns-else-at-s c = sym (search no_digit)

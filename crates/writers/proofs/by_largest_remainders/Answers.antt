@@ -1,0 +1,157 @@
+-- `writers::by_largest_remainders` meets its contract: after each turn one place more is served, in the order of their ranks. Assumes nothing.
+use borrow.Author.Rules.{rules}
+use borrow.Author.Tests.{le-ltb}
+use mathlib.Core.Logic.{⊎_elim}
+use mathlib.Core.Path.{◌≡◌, sym, ap, ◌∙◌, subst}
+use mathlib.Core.List.{List}
+use Prim.Native.Nat.{ℕ, ◌≤◌, ◌<◌, ◌-◌, ◌+◌}
+use native.Mathlib.Omega.{arith}
+use lib.Dec.{ltb}
+use Rattle.integer.specs.Sum.{sumℕ, bit, count}
+use Rattle.integer.proofs.NatSum.{sumℕ_term}
+use Rattle.integer.proofs.Count.{count_most}
+use Rattle.integer.specs.Table.{table}
+use Rattle.exercise.specs.declared.types.Shares.{Shares}
+use Rattle.places.specs.Places.{places, amount}
+use Rattle.exercise.specs.Assignment.{whole_part, remainder, rank, assigned}
+use Rattle.writers.proofs.Leftovers as law
+use Rattle.writers.proofs.by_largest_remainders.Goals.{After-loop-place, After-total-2}
+use Rattle.writers.proofs.by_largest_remainders.Goals as goal
+
+pub shares-parts-requires : goal.shares-parts-requires
+shares-parts-requires c = omega (arith, c.total.ensures)
+
+-- what is known once the shares are worked out
+module _ (c : After-total-2) where
+  abbrev e : ℕ
+  e = c.args.exercised
+
+  abbrev w : ℕ → ℕ
+  w = amount c.args.shorts
+
+  abbrev whole : List ℕ
+  whole = c.shares-parts.result.whole
+
+  abbrev rest : List ℕ
+  rest = c.shares-parts.result.remainder
+
+  some : 0 < e
+  some = c.requires.0
+
+  enough : e ≤ sumℕ places w
+  enough = c.requires.1
+
+  whole_is : whole ≡ table places (whole_part e (sumℕ places w) w)
+  whole_is = ap (λ (s : Shares). s.whole) c.shares-parts.ensures ∙ ap (λ (o : ℕ). table places (whole_part e o w)) c.total.ensures
+
+  rest-is : rest ≡ table places (remainder e (sumℕ places w) w)
+  rest-is = ap (λ (s : Shares). s.remainder) c.shares-parts.ensures ∙ ap (λ (o : ℕ). table places (remainder e o w)) c.total.ensures
+
+  in_all : sumℕ places (amount whole) ≤ e
+  in_all = law.whole_most places e w whole rest some enough whole_is rest-is
+
+  left_few : e - c.total-2.result ≤ count places (λ k. ltb 0 (amount rest k))
+  left_few = omega (arith, c.total-2.ensures, law.left_remainders places e w whole rest some enough whole_is rest-is)
+
+  start : law.Served places (amount rest) (amount whole) whole rest 0
+  start = law.served_start places e w whole rest some enough whole_is rest-is
+
+  all : (out rest' : List ℕ) → law.Served places (amount rest) (amount whole) out rest' (e - c.total-2.result) → out ≡ table places (assigned places e w)
+  all out rest' S =
+      law.all_served places e w whole rest some enough whole_is rest-is out rest'
+      (subst (λ (t : ℕ). law.Served places (amount rest) (amount whole) out rest' (e - t)) c.total-2.ensures S)
+
+pub overflow_sub-left : goal.overflow_sub-left
+overflow_sub-left c = omega (arith, in_all c, c.total-2.ensures)
+
+pub loop-init : goal.loop-init
+loop-init c = (omega arith, start c)
+
+pub loop-place-init : goal.loop-place-init
+loop-place-init c = (omega arith, law.largest_start _)
+
+pub offset_bounds-rest-largest : goal.offset_bounds-rest-largest
+offset_bounds-rest-largest c = omega (arith, c.loop-place.invariant.1.below)
+
+pub bounds-rest-largest : goal.bounds-rest-largest
+bounds-rest-largest c = omega (arith, c.loop-place.invariant.1.below)
+
+pub loop-place-smaller : goal.loop-place-smaller
+loop-place-smaller c = omega arith
+
+pub loop-place-preserved : goal.loop-place-preserved
+loop-place-preserved c =
+    let r = amount c.loop.rest in
+    let l = c.loop-place in
+    let to : (m : ℕ) → c.if-rest-largest.largest ≡ m → law.Largest (l.place + 1) r m → law.Largest (l.place + 1) r c.if-rest-largest.largest = λ m e. subst (law.Largest (l.place + 1) r) (sym e) in (
+      omega arith,
+      ⊎_elim
+          (λ x. to l.place x.1 (law.largest_new l.place r l.largest l.invariant.1 x.0.taken))
+          (λ x. to l.largest x.1 (law.largest_kept l.place r l.largest l.invariant.1 x.0.left))
+          c.if-rest-largest.branch,
+    )
+
+-- the place found is the next to be served
+module _ (c : After-loop-place) where
+  abbrev ready : After-total-2
+  ready = c.before.before.before.before
+
+  found : law.Largest places (amount c.loop.rest) c.loop-place.largest
+  found =
+      let end : c.loop-place.place ≡ places = omega arith in
+      subst (λ (n : ℕ). law.Largest n (amount c.loop.rest) c.loop-place.largest) end c.loop-place.invariant.1
+
+  next : rank places (amount (rest ready)) c.loop-place.largest ≡ c.loop.counter
+  next =
+      let l = c.loop in
+      law.next_served places (amount (rest ready)) (amount (whole ready)) l.out l.rest l.counter c.loop-place.largest l.invariant.1
+      (omega (arith, left_few ready)) (omega (arith, left_few ready, count_most places (λ k. ltb 0 (amount (rest ready) k)))) found
+
+pub offset_bounds-out-largest : goal.offset_bounds-out-largest
+offset_bounds-out-largest c = omega (arith, (found c).below)
+
+pub bounds-out-largest : goal.bounds-out-largest
+bounds-out-largest c = (found c).below
+
+pub overflow_add-out : goal.overflow_add-out
+overflow_add-out c =
+    let l = c.loop in
+    let m = c.loop-place.largest in
+    let b = ready c in
+    omega (
+      arith,
+      l.invariant.1.gets m (found c).below,
+      ap bit (le-ltb (rank places (amount (rest b)) m) l.counter (omega (arith, next c))),
+      sumℕ_term places (amount (whole b)) m (found c).below,
+      in_all b,
+      b.total-2.ensures,
+      b.requires,
+    )
+
+pub bounds-out-largest-in-loop : goal.bounds-out-largest-in-loop
+bounds-out-largest-in-loop c = (found c).below
+
+pub offset_bounds-rest-largest-in-loop : goal.offset_bounds-rest-largest-in-loop
+offset_bounds-rest-largest-in-loop c = omega (arith, (found c).below)
+
+pub bounds-rest-largest-in-loop : goal.bounds-rest-largest-in-loop
+bounds-rest-largest-in-loop c = (found c).below
+
+pub overflow_step : goal.overflow_step
+overflow_step c = omega (arith, (ready c).requires)
+
+pub loop-smaller : goal.loop-smaller
+loop-smaller c = omega arith
+
+pub loop-preserved : goal.loop-preserved
+loop-preserved c =
+    let l = c.loop in
+    let b = ready c in
+    (omega arith, law.served_more places (amount (rest b)) (amount (whole b)) l.out l.rest l.counter c.loop-place.largest l.invariant.1 (found c).below (next c))
+
+pub returns : goal.returns
+returns c =
+    let b = c.before.before in
+    let l = c.loop in
+    let end : l.counter ≡ e b - b.total-2.result = omega arith in
+    all b l.out l.rest (rw end at l.invariant.1)

@@ -1,0 +1,68 @@
+-- `writers::shares` meets its contract: the places passed have their parts. Assumes nothing.
+use borrow.Author.Rules.{rules}
+use mathlib.Core.Path.{◌≡◌, refl, sym, ap, ◌∙◌}
+use mathlib.Core.Logic.{⊎_elim}
+use mathlib.Core.List.{List}
+use Prim.Native.Nat.{ℕ, ◌≤◌, ◌-◌, ◌*◌, ◌/◌, ◌%◌}
+use native.Mathlib.Nat.{mul-le-mul, mul-le-mul_right, mod-lt, div-le_of_le-mul, mul-zero, zero-div, zero-mod}
+use native.Mathlib.Omega.{arith}
+use lib.ListN.{get_or, replicate, get_or-replicate}
+use Rattle.integer.proofs.Table.{Updated, updated_start, updated_next, updated_skip, updated_rest}
+use Rattle.places.specs.Places.{places, amount}
+use Rattle.exercise.specs.Assignment.{whole_part, remainder}
+use Rattle.writers.proofs.shares.Goals.{After-wide}
+use Rattle.writers.proofs.shares.Goals as goal
+use Rattle.writers.proofs.shares.Invariants.{none}
+
+pub loop-place-init : goal.loop-place-init
+loop-place-init c = (omega arith, updated_start _ 0 _ refl, updated_start _ 0 _ refl)
+
+-- of nothing there is no part
+no_part : (e o w : ℕ) → w ≡ 0 → 0 ≡ e * w / o
+no_part e o w q = rw (q, mul-zero e) (sym (zero-div o))
+
+no-remainder : (e o w : ℕ) → w ≡ 0 → 0 ≡ e * w % o
+no-remainder e o w q = rw (q, mul-zero e) (sym (zero-mod o))
+
+few : (c : After-wide) → c.args.exercised ≤ 4294967295
+few c = omega arith
+
+-- no writer's whole part is more than he is short
+whole-few : (c : After-wide) → c.args.exercised * c.wide.result / c.args.interest ≤ c.wide.result
+whole-few c = div-le_of_le-mul c.args.interest (mul-le-mul_right c.wide.result c.requires.1)
+
+pub overflow_mul-product : goal.overflow_mul-product
+overflow_mul-product c = record { fits = omega (arith, mul-le-mul (few c) c.wide.ensures.1) }
+
+pub overflow_cast-whole : goal.overflow_cast-whole
+overflow_cast-whole c = record { fits = omega (arith, whole-few c, c.wide.ensures.1) }
+
+pub overflow_cast-rest : goal.overflow_cast-rest
+overflow_cast-rest c = record { fits = omega (arith, mod-lt (c.args.exercised * c.wide.result) c.requires.0) }
+
+pub loop-place-smaller : goal.loop-place-smaller
+loop-place-smaller c = omega arith
+
+-- a writer has his parts, and who is short of nothing has none
+pub loop-place-preserved : goal.loop-place-preserved
+loop-place-preserved c =
+    let l = c.before.before in
+    let a = l.args in
+    let zero : get_or none l.loop-place.place 0 ≡ 0 = get_or-replicate places l.loop-place.place 0 0 c.loop-place-test.true in
+    ⊎_elim
+    (λ t.
+    let w = t.1.ensures.0 in (
+      omega arith,
+      rw t.2 (updated_next l.loop-place.invariant.1 (omega arith) _ (ap (λ (x : ℕ). a.exercised * x / a.interest) w)),
+      rw t.3 (updated_next l.loop-place.invariant.2 (omega arith) _ (ap (λ (x : ℕ). a.exercised * x % a.interest) w)),
+    ))
+    (λ t. (
+      omega arith,
+      rw t.1 (updated_skip l.loop-place.invariant.1 (zero ∙ no_part a.exercised a.interest _ t.0.left)),
+      rw t.2 (updated_skip l.loop-place.invariant.2 (zero ∙ no-remainder a.exercised a.interest _ t.0.left)),
+    ))
+    c.if-shorts-place-ne0.branch
+
+pub returns : goal.returns
+returns c =
+    λ i. record { whole = updated_rest c.loop-place.invariant.1 (λ k le lt. absurd (omega arith)) i; remainder = updated_rest c.loop-place.invariant.2 (λ k le lt. absurd (omega arith)) i }

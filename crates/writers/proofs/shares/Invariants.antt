@@ -1,0 +1,25 @@
+use borrow.Author.Rules.{rules}
+use mathlib.Core.Path.{◌≡◌, refl, sym, ap, ◌∙◌}
+use mathlib.Core.Logic.{⊎_elim}
+use mathlib.Core.List.{List}
+use Prim.Native.Nat.{ℕ, ◌≤◌, ◌-◌, ◌*◌, ◌/◌, ◌%◌}
+use native.Mathlib.Nat.{mul-le-mul, mul-le-mul_right, mod-lt, div-le_of_le-mul, mul-zero, zero-div, zero-mod}
+use native.Mathlib.Omega.{arith}
+use lib.ListN.{get_or, replicate, get_or-replicate}
+use Rattle.integer.proofs.Table.{Updated, updated_start, updated_next, updated_skip, updated_rest}
+use Rattle.places.specs.Places.{places, amount}
+use Rattle.exercise.specs.Assignment.{whole_part, remainder}
+use Rattle.writers.proofs.shares.Given as goal
+
+-- before the first place
+abbrev pub none : List ℕ
+none = replicate places 0
+
+abbrev pub invariant-loop-place : goal.invariant-loop-place
+invariant-loop-place l =
+    (l.place ≤ places) ×
+    Updated places l.place l.whole none 0 (whole_part l.exercised l.interest (amount l.shorts)) ×
+    Updated places l.place l.rest none 0 (remainder l.exercised l.interest (amount l.shorts))
+
+abbrev pub decreases-loop-place : goal.decreases-loop-place
+decreases-loop-place l = places - l.place
