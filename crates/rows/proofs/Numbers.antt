@@ -24,12 +24,12 @@ refusal_table =
       not_held = refl;
       tick_value = refl;
       second_intraday = refl;
-      no_mark_lem = λ i. refl;
+      no_mark = λ i. refl;
       code = refl;
       date = refl;
-      strike_text_lem = refl;
+      strike_text = refl;
       row = refl;
       calendar = refl;
-      no_trading_date_lem = refl;
+      no_trading_date = refl;
       unknown_section = refl;
     }

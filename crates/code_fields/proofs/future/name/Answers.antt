@@ -16,7 +16,7 @@ pub bounds-s-i : goal.bounds-s-i
 bounds-s-i c = omega arith
 
 pub returns-then-not-letter : goal.returns-then-not-letter
-returns-then-not-letter c = search (field.name_stop, not_true)
+returns-then-not-letter c = search (field.name_stop, not-true)
 
 pub returns-then-i-ge-MAX_NAME : goal.returns-then-i-ge-MAX_NAME
 returns-then-i-ge-MAX_NAME c = search (field.name_long, not-false)
