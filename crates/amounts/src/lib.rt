@@ -6,7 +6,7 @@ ghost use Rattle.integer.specs.Sum.{sum_to};
 ghost use Rattle.integer.specs.Table.{at, table};
 ghost use Rattle.places.specs.Places.{of_account};
 ghost use Rattle.terms.specs.Bounds.{accounts, series_room};
-ghost use Rattle.margin.specs.Bounds.{most_in_aseries, most_in_aday, max_cash};
+ghost use Rattle.margin.specs.Bounds.{most_in_a_series, most_in_a_day, max_cash};
 ghost use Rattle.margin.specs.BySeries.{cell, cells, in_series, in_all};
 ghost use Rattle.margin.specs.Margin.{CostsIn, Revaluable};
 
@@ -42,7 +42,7 @@ pub fn less(
     amounts: [i64; SERIES * ACCOUNTS],
     paid: [i64; SERIES * ACCOUNTS],
 ) -> [i64; SERIES * ACCOUNTS]
-    requires { (Bounded most_in_aseries amounts) × (Bounded most_in_aseries paid) }
+    requires { (Bounded most_in_a_series amounts) × (Bounded most_in_a_series paid) }
     ensures { result ≡ table cells (λ k. at amounts k -ℤ at paid k) }
 {
     let mut out = [0i64; SERIES * ACCOUNTS];
@@ -56,7 +56,7 @@ pub fn less(
 
 // An account's amounts of all series, added up.
 fn of_account(amounts: &[i64; SERIES * ACCOUNTS], account: usize) -> i64
-    requires { (Bounded (2 * most_in_aseries) amounts.now) × (account < accounts) }
+    requires { (Bounded (2 * most_in_a_series) amounts.now) × (account < accounts) }
     ensures { result ≡ sum_to series_room (λ i. at amounts.now (cell i account)) }
 {
     let mut sum: i64 = 0;
@@ -70,7 +70,7 @@ fn of_account(amounts: &[i64; SERIES * ACCOUNTS], account: usize) -> i64
 
 // The same for each account.
 pub fn in_all(amounts: &[i64; SERIES * ACCOUNTS]) -> [i64; ACCOUNTS]
-    requires { Bounded (2 * most_in_aseries) amounts.now }
+    requires { Bounded (2 * most_in_a_series) amounts.now }
     ensures { result ≡ in_all amounts.now }
 {
     let mut out = [0i64; ACCOUNTS];
@@ -84,7 +84,7 @@ pub fn in_all(amounts: &[i64; SERIES * ACCOUNTS]) -> [i64; ACCOUNTS]
 
 // The cash of each account once its money is paid.
 pub fn pay(cash: [i64; ACCOUNTS], money: [i64; ACCOUNTS]) -> [i64; ACCOUNTS]
-    requires { (Bounded max_cash cash) × (Bounded (2 * most_in_aday) money) }
+    requires { (Bounded max_cash cash) × (Bounded (2 * most_in_a_day) money) }
     ensures { result ≡ table accounts (λ a. at cash a +ℤ at money a) }
 {
     let mut out = [0i64; ACCOUNTS];

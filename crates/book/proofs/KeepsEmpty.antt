@@ -5,7 +5,7 @@ use native.Mathlib.Omega.{arith}
 use lib.ListN.{get_or-replicate}
 use Rattle.integer.proofs.Bounds.{within_pos, bounded_zeros}
 use Rattle.integer.proofs.Sum.{at_zeros, sum_ext, sum_0, sum_zeros}
-use Rattle.margin.specs.Bounds.{most_in_aseries}
+use Rattle.margin.specs.Bounds.{most_in_a_series}
 use Rattle.margin.specs.BySeries.{cells}
 use Rattle.terms.specs.Bounds.{accounts, series_room}
 use Rattle.series.specs.Series.{new_series}
@@ -38,7 +38,7 @@ good_empty =
       idle = λ i lt _. none i lt;
       unlisted = λ i _ lt. blank i lt;
       blotter = λ k lt. none k lt;
-      paid = bounded_zeros most_in_aseries cells;
+      paid = bounded_zeros most_in_a_series cells;
       paid_in_all = λ a _. rw (none_today empty_book refl a) (within_pos (omega arith));
       fresh = λ _. refl;
       paid_live = λ i a _ _ _. none_paid_lem empty_book refl i a;

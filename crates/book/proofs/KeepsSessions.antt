@@ -13,7 +13,7 @@ use Rattle.integer.specs.Table.{at}
 use Rattle.integer.specs.Sum.{sum_to}
 use Rattle.integer.proofs.Sum.{sum_ext, sum_0, sum_add, sum_table}
 use Rattle.integer.proofs.Table.{length_table, get_or_table}
-use Rattle.margin.specs.Bounds.{most_in_aseries, most_in_aday}
+use Rattle.margin.specs.Bounds.{most_in_a_series, most_in_a_day}
 use Rattle.margin.specs.BySeries.{cells}
 use Rattle.margin.proofs.BySeries.{bounded_by_series}
 use Rattle.terms.specs.Bounds.{accounts, series_room}
@@ -111,7 +111,7 @@ module _ (b : Book) (g : Good b) where
       not_past i l past = omega (arith, (live_yes b i l).today)
 
       -- cash without today's intraday payment is what it was before the session
-      unchanged : (a : ℕ) → a < accounts → Within (b.day * most_in_aday) (cash (after_intraday b) a -ℤ paid_today (after_intraday b) a)
+      unchanged : (a : ℕ) → a < accounts → Within (b.day * most_in_a_day) (cash (after_intraday b) a -ℤ paid_today (after_intraday b) a)
       unchanged a lt =
           rw (get_or_table accounts (λ a. cash b a +ℤ intraday_money b a) a (pos 0) lt, today_after b a lt, +ℤ-neg_ℤ_cancel (cash b a) (intraday_money b a))
           (rw (none_today b (g.fresh c.first) a, +ℤ_idr (cash b a)) at (g.evening_cash a lt))
@@ -136,7 +136,7 @@ module _ (b : Book) (g : Good b) where
             (λ i _ n l. g.idle i l (expired_before i n l)) i (room i lt) lt;
         unlisted = still_unlisted (λ s. settled s b.day);
         blotter = λ k lt. absurd (none k lt);
-        paid = bounded_zeros most_in_aseries cells;
+        paid = bounded_zeros most_in_a_series cells;
         paid_in_all = λ a _. rw (none_today (after_evening b) refl a) (within_pos (omega arith));
         fresh = λ _. refl;
         paid_live = λ i a _ _ _. none_paid_lem (after_evening b) refl i a;
@@ -162,5 +162,5 @@ module _ (b : Book) (g : Good b) where
           by (yes past) = past
           by (no today) = absurd (false_not_true (sym n ∙ is_live b i (record { listed = l; today = omega arith })))
 
-      paid : (a : ℕ) → a < accounts → Within ((b.day + 1) * most_in_aday) (cash (after_evening b) a)
+      paid : (a : ℕ) → a < accounts → Within ((b.day + 1) * most_in_a_day) (cash (after_evening b) a)
       paid a lt = rw (get_or_table accounts (λ a. cash b a +ℤ evening_money b a) a (pos 0) lt) (evening_cash_within b g a lt)

@@ -11,7 +11,7 @@ use Rattle.integer.proofs.Ring.{split, ring, ⊖_eq}
 use Rattle.integer.specs.Sum.{sum_to}
 use Rattle.integer.proofs.Sum.{sum_0, sum_ext, sum_sub, sum_swap}
 use Rattle.integer.specs.Table.{at}
-use Rattle.margin.specs.Bounds.{most_in_aseries, most_in_aday, max_cash}
+use Rattle.margin.specs.Bounds.{most_in_a_series, most_in_a_day, max_cash}
 use Rattle.margin.specs.Margin.{cost_in}
 use Rattle.margin.proofs.Cost.{cost_in_balances, trades_small, traded_small}
 use Rattle.terms.specs.Bounds.{accounts, series_room, max_option_price, max_position}
@@ -70,7 +70,7 @@ module _ (b : Book) (g : Good b) where
       ∙ sum_0 b.trades
 
   -- ---- variation margin: in one series at price p, and in all
-  pub margin_small : (i a p : ℕ) (n : ℤ) → i < series_room → p ≤ max_option_price → Within max_position n → Within most_in_aseries (margin_in b i a p n)
+  pub margin_small : (i a p : ℕ) (n : ℤ) → i < series_room → p ≤ max_option_price → Within max_position n → Within most_in_a_series (margin_in b i a p n)
   margin_small i a p n lt k h =
       within_sub (gain_small b.day (series_at b i) (g.series i lt) p k a n h)
       (trades_small b.blotter b.trades g.trades (trades_within b g) i _ (g.series i lt).coefficient a)
@@ -81,7 +81,7 @@ module _ (b : Book) (g : Good b) where
       ∙ rw (gain_balances b.day (series_at b i) (g.series i lt) p n h, traded_balances i) refl
 
   pub margin_within : (a : ℕ) (p : ℕ → ℕ) (n : ℕ → ℤ) → ((i : ℕ) → i < series_room → p i ≤ max_option_price)
-      → ((i : ℕ) → i < series_room → Within max_position (n i)) → Within most_in_aday (over_live b (λ i. margin_in b i a (p i) (n i)))
+      → ((i : ℕ) → i < series_room → Within max_position (n i)) → Within most_in_a_day (over_live b (λ i. margin_in b i a (p i) (n i)))
   margin_within a p n k h =
       rw (margin_is b g a p n)
       (within_sub
@@ -89,7 +89,7 @@ module _ (b : Book) (g : Good b) where
       (traded_small b.blotter (coefficients_of b) b.trades g.trades (trades_within b g) (coefficients_within b g) a))
 
   -- ---- the intraday session
-  pub intraday_small : (i a : ℕ) → i < series_room → Within most_in_aseries (intraday_money_in b i a)
+  pub intraday_small : (i a : ℕ) → i < series_room → Within most_in_a_series (intraday_money_in b i a)
   unfolding intraday_money_in
   intraday_small i a lt = margin_small i a _ _ lt (g.series i lt).option (position_of_account b.day (series_at b i) (g.series i lt) a)
 
@@ -97,7 +97,7 @@ module _ (b : Book) (g : Good b) where
   unfolding intraday_money_in
   intraday_balances_in i lt = margin_balances i _ (position b i) lt (sum_by_account (at (series_at b i).positions) ∙ (g.series i lt).positions.balance)
 
-  pub intraday_within : (a : ℕ) → Within most_in_aday (intraday_money b a)
+  pub intraday_within : (a : ℕ) → Within most_in_a_day (intraday_money b a)
   unfolding intraday_money intraday_money_in
   intraday_within a =
       margin_within a (λ i. (series_at b i).mark.option) (λ i. position b i a) (λ i lt. (g.series i lt).option)
@@ -108,7 +108,7 @@ module _ (b : Book) (g : Good b) where
   intraday_balances = over_live_balances b accounts (intraday_money_in b) intraday_balances_in
 
   -- ---- the evening session
-  pub evening_margin_small : (i a : ℕ) → i < series_room → Within most_in_aseries (evening_margin_in b i a)
+  pub evening_margin_small : (i a : ℕ) → i < series_room → Within most_in_a_series (evening_margin_in b i a)
   unfolding evening_margin_in
   evening_margin_small i a lt = margin_small i a _ _ lt (g.series i lt).option (closing_of_account b.day (series_at b i) (g.series i lt) a)
 
@@ -127,7 +127,7 @@ module _ (b : Book) (g : Good b) where
   unfolding evening_money
   evening_balances = over_live_balances b accounts (evening_money_in b) evening_balances_in
 
-  pub evening_margin_within : (a : ℕ) → Within most_in_aday (evening_margin b a)
+  pub evening_margin_within : (a : ℕ) → Within most_in_a_day (evening_margin b a)
   unfolding evening_margin evening_margin_in
   evening_margin_within a =
       margin_within a (λ i. (series_at b i).mark.option) (λ i. of_account (closing (series_at b i) b.day) a) (λ i lt. (g.series i lt).option)
@@ -137,11 +137,11 @@ module _ (b : Book) (g : Good b) where
   pub evening_is_rest : (a : ℕ) → a < accounts → evening_money b a ≡ evening_margin b a -ℤ paid_today b a
   evening_is_rest a lt = less_paid b a (λ i room e. g.paid_live i a room lt e)
 
-  pub evening_within : (a : ℕ) → a < accounts → Within (2 * most_in_aday) (evening_money b a)
+  pub evening_within : (a : ℕ) → a < accounts → Within (2 * most_in_a_day) (evening_money b a)
   evening_within a lt = rw (evening_is_rest a lt) (within_sub (evening_margin_within a) (g.paid_in_all a lt))
 
   -- ---- cash
-  pub cash_within : (a : ℕ) → a < accounts → Within ((b.day + 1) * most_in_aday) (cash b a)
+  pub cash_within : (a : ℕ) → a < accounts → Within ((b.day + 1) * most_in_a_day) (cash b a)
   cash_within a lt =
       within_le (rw (-ℤ-+ℤ_cancel (cash b a) (paid_today b a)) at (within_add (g.evening_cash a lt) (g.paid_in_all a lt))) (omega arith)
 
@@ -153,5 +153,5 @@ module _ (b : Book) (g : Good b) where
   evening_settles a lt =
       rw (evening_is_rest a lt, split (cash b a), split (paid_today b a), split (evening_margin b a)) (simp ring (⊖_eq _ _ _ _ (omega arith)))
 
-  pub evening_cash_within : (a : ℕ) → a < accounts → Within ((b.day + 1) * most_in_aday) (cash b a +ℤ evening_money b a)
+  pub evening_cash_within : (a : ℕ) → a < accounts → Within ((b.day + 1) * most_in_a_day) (cash b a +ℤ evening_money b a)
   evening_cash_within a lt = rw (evening_settles a lt) (within_le (within_add (g.evening_cash a lt) (evening_margin_within a)) (omega arith))

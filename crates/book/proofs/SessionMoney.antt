@@ -11,7 +11,7 @@ use Rattle.integer.proofs.Bounds.{bounded_table, within_sub}
 use Rattle.integer.specs.Table.{at, table}
 use Rattle.integer.proofs.Sum.{sum_ext, sum_sub}
 use Rattle.integer.proofs.Table.{table_ext, get_or_table}
-use Rattle.margin.specs.Bounds.{most_in_aseries}
+use Rattle.margin.specs.Bounds.{most_in_a_series}
 use Rattle.margin.specs.BySeries.{cell, cells, by_series, in_all}
 use Rattle.margin.proofs.BySeries.{cell_below, at_by_series, by_series_ext, bounded_by_series}
 use Rattle.places.specs.Places.{Limited}
@@ -80,13 +80,13 @@ module _ (b : Book) (good : Good b) where
         ∙ ap (λ (n : ℤ). margin_in b i a (series_at b i).mark.option n) (of_account_table (closing (series_at b i) b.day) a lt)))
 
   -- how far from 0 these are, and what is left of the evening's once the intraday session's are taken away
-  pub intraday_bounded : Bounded most_in_aseries (by_series (paid_for b (intraday_money_in b)))
+  pub intraday_bounded : Bounded most_in_a_series (by_series (paid_for b (intraday_money_in b)))
   intraday_bounded = bounded_by_series (paid_for b (intraday_money_in b)) (λ i a lt _. choice_small (live b i) _ (intraday_small b good i a lt))
 
-  pub evening_bounded : Bounded most_in_aseries (by_series (paid_for b (evening_margin_in b)))
+  pub evening_bounded : Bounded most_in_a_series (by_series (paid_for b (evening_margin_in b)))
   evening_bounded = bounded_by_series (paid_for b (evening_margin_in b)) (λ i a lt _. choice_small (live b i) _ (evening_margin_small b good i a lt))
 
-  pub rest_bounded : Bounded (2 * most_in_aseries) (table cells (λ k. at (by_series (paid_for b (evening_margin_in b))) k -ℤ at b.intraday_paid k))
+  pub rest_bounded : Bounded (2 * most_in_a_series) (table cells (λ k. at (by_series (paid_for b (evening_margin_in b))) k -ℤ at b.intraday_paid k))
   rest_bounded = bounded_table cells _ (λ k _. within_sub (evening_bounded.each k) (good.paid.each k))
 
 -- ---- added up over the series

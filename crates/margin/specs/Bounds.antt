@@ -21,15 +21,15 @@ abbrev pub max_traded : ℕ
 max_traded = blotter_room * max_due
 
 -- the most that a day's variation margin moves for an account: in one series, and in all
-abbrev pub most_in_aseries : ℕ
-most_in_aseries = max_gain + max_traded
+abbrev pub most_in_a_series : ℕ
+most_in_a_series = max_gain + max_traded
 
-abbrev pub most_in_aday : ℕ
-most_in_aday = series_room * max_gain + max_traded
+abbrev pub most_in_a_day : ℕ
+most_in_a_day = series_room * max_gain + max_traded
 
 -- an account's cash: what the evenings of all days paid, and the intraday session after them
 abbrev pub max_cash : ℕ
-max_cash = (final_day + 2) * most_in_aday
+max_cash = (final_day + 2) * most_in_a_day
 
 -- futures at a place: an evening brings at most max_position
 abbrev pub max_futures : ℕ

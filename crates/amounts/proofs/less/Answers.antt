@@ -9,13 +9,13 @@ use Rattle.integer.specs.Bounds.{Within}
 use Rattle.integer.proofs.Machine.{param, minus, fits}
 use Rattle.integer.specs.Table.{at}
 use Rattle.integer.proofs.Table.{Filled, filled_start, filled_all}
-use Rattle.margin.specs.Bounds.{most_in_aseries}
+use Rattle.margin.specs.Bounds.{most_in_a_series}
 use Rattle.margin.specs.BySeries.{cells}
 use Rattle.margin.proofs.Combined.{difference_next}
 use Rattle.amounts.proofs.less.Goals as goal
 
 -- of whichever two amounts, their difference fits
-some-difference : {x y : ℤ} → Within most_in_aseries x → Within most_in_aseries y → SFits w64 (to_z w64 (of_z w64 x) -ℤ to_z w64 (of_z w64 y))
+some-difference : {x y : ℤ} → Within most_in_a_series x → Within most_in_a_series y → SFits w64 (to_z w64 (of_z w64 x) -ℤ to_z w64 (of_z w64 y))
 some-difference h k = fits w64 (minus (param w64 h tt) (param w64 k tt)) tt
 
 pub loop-k-init : goal.loop-k-init

@@ -8,7 +8,7 @@ use Rattle.integer.specs.Bounds.{Within}
 use Rattle.integer.proofs.Machine.{param, minus, fits}
 use Rattle.integer.specs.Table.{at}
 use Rattle.integer.proofs.Table.{Filled, filled_start, filled_all}
-use Rattle.margin.specs.Bounds.{most_in_aseries}
+use Rattle.margin.specs.Bounds.{most_in_a_series}
 use Rattle.margin.specs.BySeries.{cells}
 use Rattle.margin.proofs.Combined.{difference_next}
 use Rattle.amounts.proofs.less.Given as goal

@@ -13,7 +13,7 @@ use Rattle.integer.specs.Sum.{sum_to}
 use Rattle.integer.proofs.Sum.{sum_to_zero, sum_to_next}
 use Rattle.integer.specs.Table.{at}
 use Rattle.terms.specs.Bounds.{series_room}
-use Rattle.margin.specs.Bounds.{most_in_aseries}
+use Rattle.margin.specs.Bounds.{most_in_a_series}
 use Rattle.margin.specs.BySeries.{cell}
 use Rattle.margin.proofs.BySeries.{cell_below}
 use Rattle.amounts.proofs.of_account.Goals.{In-loop-i}
@@ -21,11 +21,11 @@ use Rattle.amounts.proofs.of_account.Goals as goal
 
 -- the sum of one series more
 module _ (c : In-loop-i) where
-  abbrev summed : Reads (series_room * (2 * most_in_aseries) + 2 * most_in_aseries) (sum_to c.loop-i.i (λ j. at c.args.amounts.now (cell j c.args.account)) +ℤ at c.args.amounts.now (cell c.loop-i.i c.args.account))
+  abbrev summed : Reads (series_room * (2 * most_in_a_series) + 2 * most_in_a_series) (sum_to c.loop-i.i (λ j. at c.args.amounts.now (cell j c.args.account)) +ℤ at c.args.amounts.now (cell c.loop-i.i c.args.account))
   summed =
       plus
       (same (to_z w64 c.loop-i.sum) c.loop-i.invariant.1
-      (within_le (within_sum c.loop-i.i _ (λ j lt. c.requires.0.each _)) (mul-le-mul_right (2 * most_in_aseries) c.loop-i.invariant.0)))
+      (within_le (within_sum c.loop-i.i _ (λ j lt. c.requires.0.each _)) (mul-le-mul_right (2 * most_in_a_series) c.loop-i.invariant.0)))
       (param w64 (c.requires.0.each (cell c.loop-i.i c.args.account)) tt)
 
 pub loop-i-init : goal.loop-i-init

@@ -12,7 +12,7 @@ use Rattle.integer.specs.Sum.{sum_to}
 use Rattle.integer.proofs.Sum.{sum_to_zero, sum_to_next}
 use Rattle.integer.specs.Table.{at}
 use Rattle.terms.specs.Bounds.{series_room}
-use Rattle.margin.specs.Bounds.{most_in_aseries}
+use Rattle.margin.specs.Bounds.{most_in_a_series}
 use Rattle.margin.specs.BySeries.{cell}
 use Rattle.margin.proofs.BySeries.{cell_below}
 use Rattle.amounts.proofs.of_account.Given as goal

@@ -9,7 +9,7 @@ use lib.ListN.{get_or}
 use Rattle.integer.specs.Bounds.{Bounded}
 use Rattle.integer.proofs.Bounds.{bounded_table, bounded_zeros}
 use Rattle.integer.specs.Table.{at, table}
-use Rattle.margin.specs.Bounds.{most_in_aseries}
+use Rattle.margin.specs.Bounds.{most_in_a_series}
 use Rattle.margin.specs.BySeries.{cells, by_series}
 use Rattle.margin.specs.Margin.{trades_cost}
 use Rattle.places.specs.Places.{Limited}
@@ -108,9 +108,9 @@ pub less-rest-requires : goal.less-rest-requires
 less-rest-requires c =
     let e = c.before in
     let g = (begun e).requires.0 in
-    let whole : Bounded most_in_aseries e.loop-i.margin = rw (margin e) (evening_bounded (original e) g) in
-    let paid : Bounded most_in_aseries e.loop-i.book.intraday_paid = rw (series e) g.paid in
-    (whole, search (whole, paid, bounded_zeros most_in_aseries cells))
+    let whole : Bounded most_in_a_series e.loop-i.margin = rw (margin e) (evening_bounded (original e) g) in
+    let paid : Bounded most_in_a_series e.loop-i.book.intraday_paid = rw (series e) g.paid in
+    (whole, search (whole, paid, bounded_zeros most_in_a_series cells))
 
 -- what is left once the intraday session's payments are taken away
 module _ (c : After-less-rest) where

@@ -8,7 +8,7 @@ use lib.ListN.{get_or}
 use Rattle.integer.specs.Bounds.{Bounded}
 use Rattle.integer.proofs.Bounds.{bounded_table, bounded_zeros}
 use Rattle.integer.specs.Table.{at, table}
-use Rattle.margin.specs.Bounds.{most_in_aseries}
+use Rattle.margin.specs.Bounds.{most_in_a_series}
 use Rattle.margin.specs.BySeries.{cells, by_series}
 use Rattle.margin.specs.Margin.{trades_cost}
 use Rattle.places.specs.Places.{Limited}
