@@ -46,7 +46,7 @@ module _ (c : After-in_section) where
   abbrev comes : Reads max_quantity (choose (eqb s first.args.section) change (pos 0))
   comes =
       same c.in_section.result c.in_section.ensures
-      (choice_small (eqb s first.args.section) change (subst (Within max_quantity) (sym (any w64 first.fits.change).is) first.requires.2))
+      (choice_small (eqb s first.args.section) change (subst (Within max_quantity) (sym (any w64 first.ranges.change).is) first.requires.2))
 
   abbrev moved : Reads most (at first.args.positions.now c.place_in.result +ℤ choose (eqb s first.args.section) change (pos 0))
   moved = plus (local w64 (stands c.before) tt) (local w64 comes tt)
