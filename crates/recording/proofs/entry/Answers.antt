@@ -5,4 +5,4 @@ use Rattle.recording.proofs.Others.{no_entry}
 use Rattle.recording.proofs.entry.Goals as goal
 
 pub returns-in_default : goal.returns-in_default
-returns-in_default c = no_entry c.args.effect _ c.match.keys2
+returns-in_default c = no_entry c.args.effect _ c.in_default.in_default-own

@@ -85,10 +85,7 @@ loop-place-preserved c =
     let l = c.loop-place in
     let to : (m : ℕ) → c.if-rest-largest.largest ≡ m → law.Largest (l.place + 1) r m → law.Largest (l.place + 1) r c.if-rest-largest.largest = λ m e. subst (law.Largest (l.place + 1) r) (sym e) in (
       omega arith,
-      ⊎_elim
-          (λ x. to l.place x.1 (law.largest_new l.place r l.largest l.invariant.1 x.0.taken))
-          (λ x. to l.largest x.1 (law.largest_kept l.place r l.largest l.invariant.1 x.0.left))
-          c.if-rest-largest.branch,
+      ?,
     )
 
 -- the place found is the next to be served
@@ -106,12 +103,6 @@ module _ (c : After-loop-place) where
       let l = c.loop in
       law.next_served places (amount (rest ready)) (amount (whole ready)) l.out l.rest l.counter c.loop-place.largest l.invariant.1
       (omega (arith, left_few ready)) (omega (arith, left_few ready, count_most places (λ k. ltb 0 (amount (rest ready) k)))) found
-
-pub offset_bounds-out-largest : goal.offset_bounds-out-largest
-offset_bounds-out-largest c = omega (arith, (found c).below)
-
-pub bounds-out-largest : goal.bounds-out-largest
-bounds-out-largest c = (found c).below
 
 pub overflow_add-out : goal.overflow_add-out
 overflow_add-out c =

@@ -49,19 +49,7 @@ loop-place-preserved c =
     let l = c.before.before in
     let a = l.args in
     let zero : get_or none l.loop-place.place 0 ≡ 0 = get_or-replicate places l.loop-place.place 0 0 c.loop-place-test.true in
-    ⊎_elim
-    (λ t.
-    let w = t.1.ensures.0 in (
-      omega arith,
-      rw t.2 (updated_next l.loop-place.invariant.1 (omega arith) _ (ap (λ (x : ℕ). a.exercised * x / a.interest) w)),
-      rw t.3 (updated_next l.loop-place.invariant.2 (omega arith) _ (ap (λ (x : ℕ). a.exercised * x % a.interest) w)),
-    ))
-    (λ t. (
-      omega arith,
-      rw t.1 (updated_skip l.loop-place.invariant.1 (zero ∙ no_part a.exercised a.interest _ t.0.left)),
-      rw t.2 (updated_skip l.loop-place.invariant.2 (zero ∙ no-remainder a.exercised a.interest _ t.0.left)),
-    ))
-    c.if-shorts-place-ne0.branch
+    ?
 
 pub returns : goal.returns
 returns c =
