@@ -47,6 +47,6 @@ returns c =
     (λ i. record {
       answer = Listed k.listed;
       money = no_money;
-      book = with_listed (with_series k k.listed (c.new_series.ensures i)) (k.listed + 1);
+      book = with_listed (with_series k k.listed (c.new_series-s.ensures i)) (k.listed + 1);
     })
     (verdict_is c.list_verdict.ensures c.in_default.is)
