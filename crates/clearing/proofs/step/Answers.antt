@@ -6,7 +6,7 @@ use Rattle.terms.specs.Bounds.{blotter_room, max_position}
 use Rattle.integer.specs.Bounds.{Bounded}
 use Rattle.book.specs.Effects.{Fits}
 use Rattle.book.specs.Good.{Good}
-use Rattle.book.specs.State.{series_at}
+use Rattle.book.specs.State.{series_at, today_of}
 use Rattle.book.specs.Step.{step_of}
 use Rattle.book.specs.declared.state.Book.{Book}
 use Rattle.book.specs.declared.state.Event.{Event}
@@ -25,7 +25,7 @@ bounded : (c : After-effect-effect) → Bounded max_position (series_at c.args.b
 bounded c = (c.requires.series c.series_of-i.result c.if-i-ge-SERIES.false).positions.bounded
 
 fits : (c : After-effect-effect) → Fits c.effect-effect.result
-fits c = rw c.effect-effect.ensures (effect_fits _ _ _ (bounded c) c.args.event)
+fits c = rw c.effect-effect.ensures (effect_fits (today_of c.args.book) (series_at c.args.book c.series_of-i.result).listing _ (bounded c) c.args.event)
 
 trade_type : (c : After-next_record-n) → c.next_record-n.result < blotter_room
 trade_type c = rw c.next_record-n.ensures (next_record_within _)
