@@ -16,7 +16,7 @@ pub loop-n-init : goal.loop-n-init
 loop-n-init c = (none _, omega arith)
 
 pub step-step-requires : goal.step-step-requires
-step-step-requires c = c.after-c.ensures.1
+step-step-requires c = c.after-full.ensures.1
 
 pub overflow_add-n : goal.overflow_add-n
 overflow_add-n c = omega (arith, c.loop-n-test.true)
@@ -28,12 +28,12 @@ loop-n-smaller c = omega (arith, c.loop-n-test.true)
 next_day : (c : After-wrapping_add_u64-carried_out) → c.step-step.result.book ≡ rule.next_day
 next_day c =
     ap (λ (s : Step). s.book) c.step-step.ensures.0
-    ∙ ap (λ (b : Book). (step_of b Evening).book) (c.after-c.ensures.0 ∙ ap (λ (b : Book). rule.after b 0 rule.events) c.empty.ensures.0)
+    ∙ ap (λ (b : Book). (step_of b Evening).book) (c.after-full.ensures.0 ∙ ap (λ (b : Book). rule.after b 0 rule.events) c.empty.ensures.0)
 
 pub loop-n-preserved : goal.loop-n-preserved
 loop-n-preserved c =
     let l = c.loop-n in
-    (c.wrapping_add_u64-carried_out.ensures ∙ rw (next_day c) (one_more l.n (rule.next_day).day l.carried_out l.invariant.0), omega (arith, c.loop-n-test.true))
+    (c.wrapping_add_u64-carried_out.ensures.value ∙ rw (next_day c) (one_more l.n (rule.next_day).day l.carried_out l.invariant.0), omega (arith, c.loop-n-test.true))
 
 pub returns : goal.returns
 returns c =

@@ -31,7 +31,7 @@ traded c =
 pub loop-n-preserved : goal.loop-n-preserved
 loop-n-preserved c =
     let l = c.loop-n in
-    (c.wrapping_add_u64-carried_out.ensures ∙ rw (traded c) (one_more l.n (rule.traded).trades l.carried_out l.invariant.0), omega (arith, c.loop-n-test.true))
+    (c.wrapping_add_u64-carried_out.ensures.value ∙ rw (traded c) (one_more l.n (rule.traded).trades l.carried_out l.invariant.0), omega (arith, c.loop-n-test.true))
 
 pub returns : goal.returns
 returns c =
