@@ -33,20 +33,20 @@ module _ (c : After-sum-1) where
   abbrev summed : Reads (sections * most + most) (sum_to turn.loop-section.section numbers +ℤ at turn.args.numbers.now c.place_in.result)
   summed =
       plus
-      (same (to_z w64 turn.loop-section.sum) turn.loop-section.invariant.1
+      (same (to_z w64 turn.loop-section.sum-bits) turn.loop-section.invariant.1
       (within_le turn.loop-section.invariant.2 (mul-le-mul_right most turn.loop-section.invariant.0)))
       (local w64 number tt)
 
   next : sum_to turn.loop-section.section numbers +ℤ at turn.args.numbers.now c.place_in.result ≡ sum_to (turn.loop-section.section + 1) numbers
   next =
-      ap (λ (k : ℕ). sum_to turn.loop-section.section numbers +ℤ at turn.args.numbers.now k) c.place_in.ensures.0
+      ap (λ (k : ℕ). sum_to turn.loop-section.section numbers +ℤ at turn.args.numbers.now k) c.place_in.ensures.value
       ∙ sym (sum_to_next turn.loop-section.section numbers)
 
 pub loop-section-init : goal.loop-section-init
 loop-section-init c = (omega arith, sym (sum_to_zero _), rw (sum_to_zero (λ s. at c.args.numbers.now (place_in c.args.account s))) (within_pos (omega arith)))
 
 pub bounds-numbers-place_in : goal.bounds-numbers-place_in
-bounds-numbers-place_in c = c.place_in.ensures.1
+bounds-numbers-place_in c = c.place_in.ensures.upper_bound
 
 pub overflow_cast-sum : goal.overflow_cast-sum
 overflow_cast-sum c = fits w64 (number c) tt

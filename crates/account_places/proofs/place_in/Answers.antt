@@ -9,4 +9,4 @@ use Rattle.account_places.proofs.place_in.Goals as goal
 
 pub returns : goal.returns
 unfolding place_in
-returns c = (refl, place_within _ _ c.requires.0 c.requires.1)
+returns c = record { value = refl; upper_bound = place_within _ _ c.requires.0 c.requires.1 }

@@ -46,7 +46,7 @@ module _ (c : After-in_section) where
   abbrev comes : Reads max_quantity (choose (eqb s first.args.section) change (pos 0))
   comes =
       same c.in_section.result c.in_section.ensures
-      (choice_small (eqb s first.args.section) change (subst (Within max_quantity) (sym (any w64 first.fits.change).is) first.requires.2))
+      (choice_small (eqb s first.args.section) change (subst (Within max_quantity) (sym (any w64 first.ranges.change).is) first.requires.2))
 
   abbrev moved : Reads most (at first.args.positions.now c.place_in.result +ℤ choose (eqb s first.args.section) change (pos 0))
   moved = plus (local w64 (stands c.before) tt) (local w64 comes tt)
@@ -62,7 +62,7 @@ module _ (c : After-magnitude-gross) where
   gives =
       c.magnitude-gross.ensures.0
       ∙ ap nat_abs (local w64 (moved c.before) tt).is
-      ∙ ap (λ (k : ℕ). nat_abs (at (first c.before).args.positions.now k +ℤ choose (eqb at_turn.loop-s.s (first c.before).args.section) (change c.before) (pos 0))) c.place_in.ensures.0
+      ∙ ap (λ (k : ℕ). nat_abs (at (first c.before).args.positions.now k +ℤ choose (eqb at_turn.loop-s.s (first c.before).args.section) (change c.before) (pos 0))) c.place_in.ensures.value
 
   small : c.magnitude-gross.result ≤ most
   small = omega (arith, c.magnitude-gross.ensures.0, ap nat_abs (local w64 (moved c.before) tt).is, (moved c.before).bound.abs)
@@ -71,7 +71,7 @@ pub loop-s-init : goal.loop-s-init
 loop-s-init c = (omega arith, sym (sumℕ_zero _), omega arith)
 
 pub bounds-positions-place_in : goal.bounds-positions-place_in
-bounds-positions-place_in c = c.place_in.ensures.1
+bounds-positions-place_in c = c.place_in.ensures.upper_bound
 
 pub overflow_cast-position : goal.overflow_cast-position
 overflow_cast-position c = fits w64 (stands c) tt

@@ -9,6 +9,3 @@ returns-in-Refused c = rw c.in-Refused.is refl
 
 pub returns-in-Traded : goal.returns-in-Traded
 returns-in-Traded c = rw c.in-Traded.is refl
-
-pub returns-in_default : goal.returns-in_default
-returns-in_default c = carried_out_lem c.args.effect c.match.keys3

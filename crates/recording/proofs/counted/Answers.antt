@@ -6,6 +6,3 @@ use Rattle.recording.proofs.counted.Goals as goal
 
 pub returns-in-Traded : goal.returns-in-Traded
 returns-in-Traded c = rw c.in-Traded.is refl
-
-pub returns-in_default : goal.returns-in_default
-returns-in_default c = not_counted c.args.effect _ c.match.keys2

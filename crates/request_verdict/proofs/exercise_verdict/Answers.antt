@@ -15,7 +15,7 @@ abbrev start : After-held → Start
 start c = c.before.before.before.before.before.before.before.before.before.before.before.before.before.before.before.before.before.before
 
 gave : (c : After-held) → c.held.result ≡ held (at (start c).args.positions.now (place_in (start c).args.request.account (start c).args.request.section))
-gave c = rw ((any w32 (record { sfits = c.held-arg-1.given })).is, c.place_in-place.ensures.0) at c.held.ensures
+gave c = rw ((any w32 (record { sfits = c.held-arg-1.given })).is, c.place_in-place.ensures.value) at c.held.ensures
 
 pub returns-then-today-gt-FINAL_DAY : goal.returns-then-today-gt-FINAL_DAY
 returns-then-today-gt-FINAL_DAY c = search (hit, past, tests) depth 28

@@ -1,7 +1,6 @@
 -- `writers::by_largest_remainders` meets its contract: after each turn one place more is served, in the order of their ranks. Assumes nothing.
 use borrow.Author.Rules.{rules}
 use borrow.Author.Tests.{le-ltb}
-use mathlib.Core.Logic.{⊎_elim}
 use mathlib.Core.Path.{◌≡◌, sym, ap, ◌∙◌, subst}
 use mathlib.Core.List.{List}
 use Prim.Native.Nat.{ℕ, ◌≤◌, ◌<◌, ◌-◌, ◌+◌}
@@ -15,7 +14,7 @@ use Rattle.exercise.specs.declared.types.Shares.{Shares}
 use Rattle.places.specs.Places.{places, amount}
 use Rattle.exercise.specs.Assignment.{whole_part, remainder, rank, assigned}
 use Rattle.writers.proofs.Leftovers as law
-use Rattle.writers.proofs.by_largest_remainders.Goals.{After-loop-place, After-total-2}
+use Rattle.writers.proofs.by_largest_remainders.Goals.{After-loop-place, After-total-2, then-rest-largest, else-rest-largest}
 use Rattle.writers.proofs.by_largest_remainders.Goals as goal
 
 pub shares-parts-requires : goal.shares-parts-requires
@@ -85,10 +84,10 @@ loop-place-preserved c =
     let l = c.loop-place in
     let to : (m : ℕ) → c.if-rest-largest.largest ≡ m → law.Largest (l.place + 1) r m → law.Largest (l.place + 1) r c.if-rest-largest.largest = λ m e. subst (law.Largest (l.place + 1) r) (sym e) in (
       omega arith,
-      ⊎_elim
-          (λ x. to l.place x.1 (law.largest_new l.place r l.largest l.invariant.1 x.0.taken))
-          (λ x. to l.largest x.1 (law.largest_kept l.place r l.largest l.invariant.1 x.0.left))
-          c.if-rest-largest.branch,
+      elim c.if-rest-largest.branch [
+        then-rest-largest w ↦ to l.place w.largest-is (law.largest_new l.place r l.largest l.invariant.1 w.if-rest-largest.true)
+        | else-rest-largest w ↦ to l.largest w.largest-is (law.largest_kept l.place r l.largest l.invariant.1 w.if-rest-largest.false)
+      ],
     )
 
 -- the place found is the next to be served
@@ -106,12 +105,6 @@ module _ (c : After-loop-place) where
       let l = c.loop in
       law.next_served places (amount (rest ready)) (amount (whole ready)) l.out l.rest l.counter c.loop-place.largest l.invariant.1
       (omega (arith, left_few ready)) (omega (arith, left_few ready, count_most places (λ k. ltb 0 (amount (rest ready) k)))) found
-
-pub offset_bounds-out-largest : goal.offset_bounds-out-largest
-offset_bounds-out-largest c = omega (arith, (found c).below)
-
-pub bounds-out-largest : goal.bounds-out-largest
-bounds-out-largest c = (found c).below
 
 pub overflow_add-out : goal.overflow_add-out
 overflow_add-out c =

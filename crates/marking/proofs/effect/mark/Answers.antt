@@ -9,7 +9,7 @@ use Rattle.marking.proofs.effect.mark.Goals.{In_default, Start}
 use Rattle.marking.proofs.effect.mark.Goals as goal
 
 abbrev start : In_default → Start
-start c = c.before.before.before
+start c = c.before.before
 
 -- the verdict allows it
 allowed : (c : In_default) → MarkAllowed (start c).args.today (start c).args.listing (start c).args.quote

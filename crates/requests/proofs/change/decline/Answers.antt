@@ -6,4 +6,4 @@ use borrow.Author.Rules.{rules}
 use Rattle.requests.proofs.change.decline.Goals as goal
 
 pub returns : goal.returns
-returns c = ap (λ (k : ℕ). set c.args.declined.now k c.args.declines) c.place_in-place.ensures.0
+returns c = ap (λ (k : ℕ). set c.args.declined.now k c.args.declines) c.place_in-place.ensures.value

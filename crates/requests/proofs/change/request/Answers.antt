@@ -6,4 +6,4 @@ use borrow.Author.Rules.{rules}
 use Rattle.requests.proofs.change.request.Goals as goal
 
 pub returns : goal.returns
-returns c = ap (λ (k : ℕ). set c.args.requests.now k c.args.quantity) c.place_in-place.ensures.0
+returns c = ap (λ (k : ℕ). set c.args.requests.now k c.args.quantity) c.place_in-place.ensures.value

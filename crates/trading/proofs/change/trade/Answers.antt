@@ -26,7 +26,7 @@ module _ (c : After-place_in-y) where
   apart : x ≢ y
   apart e =
       other_account start.args.t.buyer_section start.args.t.seller_section start.requires.0.buyer_section start.requires.0.seller_section start.requires.0.apart
-      (sym c.place_in-x.ensures.0 ∙ e ∙ c.place_in-y.ensures.0)
+      (sym c.place_in-x.ensures.value ∙ e ∙ c.place_in-y.ensures.value)
 
   abbrev quantity : Reads 1000 (pos start.args.t.quantity)
   quantity = nat w32 start.requires.0.quantity tt
@@ -47,4 +47,4 @@ returns c =
     let l = (start b).args.positions.now in
     let q = pos (start b).args.t.quantity in
     moved_is w32 l (x b) (y b) (apart b) (start b).requires.1 (quantity b) tt tt
-    ∙ ap₂ (λ (i j : ℕ). set (set l i (at l i +ℤ q)) j (at l j -ℤ q)) b.place_in-x.ensures.0 b.place_in-y.ensures.0
+    ∙ ap₂ (λ (i j : ℕ). set (set l i (at l i +ℤ q)) j (at l j -ℤ q)) b.place_in-x.ensures.value b.place_in-y.ensures.value
