@@ -24,7 +24,7 @@ module _ (c : In-loop-i) where
   abbrev summed : Reads (series_room * (2 * most_in_a_series) + 2 * most_in_a_series) (sum_to c.loop-i.i (λ j. at c.args.amounts.now (cell j c.args.account)) +ℤ at c.args.amounts.now (cell c.loop-i.i c.args.account))
   summed =
       plus
-      (same (to_z w64 c.loop-i.sum) c.loop-i.invariant.1
+      (same (to_z w64 c.loop-i.sum-bits) c.loop-i.invariant.1
       (within_le (within_sum c.loop-i.i _ (λ j lt. c.requires.0.each _)) (mul-le-mul_right (2 * most_in_a_series) c.loop-i.invariant.0)))
       (param w64 (c.requires.0.each (cell c.loop-i.i c.args.account)) tt)
 

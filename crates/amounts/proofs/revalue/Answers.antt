@@ -47,7 +47,7 @@ module _ (c : After-of_account-b) where
       (limited_of_account (at start.args.opening) (λ k. within_itself (at start.args.opening k)) start.requires.1.opening turn.loop-a.a)
 
   abbrev gain : ℤ → ℤ → ℤ
-  gain n b = n *ℤ pos start.args.price-value -ℤ b *ℤ pos start.args.evening-value
+  gain n b = n *ℤ pos start.args.price_value -ℤ b *ℤ pos start.args.evening_value
 
   abbrev cost : ℤ
   cost = at turn.loop-a.amounts (cell start.args.series turn.loop-a.a)

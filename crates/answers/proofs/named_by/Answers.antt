@@ -7,8 +7,7 @@ use Rattle.book.specs.declared.state.Found.TheVariants.{Nothing}
 use Rattle.book.specs.Answers.{named_by}
 use Rattle.answers.proofs.named_by.Goals as goal
 
--- the refusals but the last
-unnamed : (why : Refusal) → ((x : ℕ) → why ≡ NoMark x → ⊥) → Nothing ≡ named_by why
+unnamed : (why : Refusal) → ((i : ℕ) → why ≡ NoMark i → ⊥) → Nothing ≡ named_by why
 unfolding named_by
 unnamed Finished h = refl
 unnamed UnknownSeries h = refl

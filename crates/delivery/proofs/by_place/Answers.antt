@@ -21,13 +21,13 @@ loop-place-init c = (omega arith, filled_start _ (pos 0) _ refl, filled_start _ 
 
 pub shrunk-requires : goal.shrunk-requires
 shrunk-requires c =
-    let l = c.before.before in
+    let l = c in
     let k = l.loop-place.place in
     (passed w32 (l.requires.0.each k) tt, l.requires.1 k, l.requires.2 k)
 
 pub futures-requires : goal.futures-requires
 futures-requires c =
-    let l = c.before.before.before in
+    let l = c in
     (l.requires.1 l.loop-place.place, l.requires.2 l.loop-place.place)
 
 pub loop-place-smaller : goal.loop-place-smaller
@@ -35,7 +35,7 @@ loop-place-smaller c = omega arith
 
 pub loop-place-preserved : goal.loop-place-preserved
 loop-place-preserved c =
-    let l = c.before.before.before.before in
+    let l = c in
     let a = l.args in
     let k = l.loop-place.place in
     let f : SFits w32 c.shrunk.result = search rules in

@@ -8,7 +8,7 @@ use Rattle.delivery.proofs.evening.Goals as goal
 
 pub returns-then-in_all-eq0 : goal.returns-then-in_all-eq0
 returns-then-in_all-eq0 c =
-    let s = c.before.before.before in
+    let s = c in
     let x = c.exercised_by_place-exercised in
     let e = c.total-in_all in
     let long : length s.args.positions ≡ places = search rules in
@@ -17,7 +17,7 @@ returns-then-in_all-eq0 c =
 
 pub assign-assigned-requires : goal.assign-assigned-requires
 assign-assigned-requires c =
-    let s = c.before.before.before in
+    let s = c in
     let x = c.exercised_by_place-exercised in
     let e = c.total-in_all in (
       s.requires.0,
@@ -27,7 +27,7 @@ assign-assigned-requires c =
 
 pub by_place-requires : goal.by_place-requires
 by_place-requires c =
-    let s = c.before.before.before.before in
+    let s = c in
     let x = c.exercised_by_place-exercised in
     let e = c.total-in_all in (
       s.requires.0,
@@ -38,7 +38,7 @@ by_place-requires c =
 
 pub returns : goal.returns
 returns c =
-    let s = c.before.before.before.before.before in
+    let s = c in
     let x = c.exercised_by_place-exercised in
     let e = c.total-in_all in
     law.all_done s.args.fixing s.args.positions s.args.requests s.args.declined s.requires.0

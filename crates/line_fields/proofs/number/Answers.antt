@@ -7,5 +7,6 @@ use Rattle.line_fields.proofs.number.Goals as goal
 pub digits-requires : goal.digits-requires
 digits-requires c = omega (arith, row_length c.args.n (search rules))
 
-pub returns-clause-upper_bound : goal.returns-clause-upper_bound
-returns-clause-upper_bound c = omega (arith, c.digits.ensures.place, row_length c.args.n (search rules))
+pub returns : goal.returns
+returns c =
+    record { put = c.digits.ensures; upper_bound = omega (arith, row_length c.args.n (search rules)) }

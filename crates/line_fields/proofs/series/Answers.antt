@@ -1,12 +1,14 @@
 -- `line_fields::series` meets its contract.
+use native.Mathlib.Omega.{arith}
 use Rattle.report.specs.Lines.{series_text}
 use Rattle.report.proofs.Fields.{nothing}
 use Rattle.line_fields.proofs.series.Goals as goal
 
-pub returns-in-At-clause-put : goal.returns-in-At-clause-put
+pub returns-in-At : goal.returns-in-At
 unfolding series_text
-returns-in-At-clause-put c = rw c.in-At.is c.index.ensures.put
+returns-in-At c =
+    record { put = rw c.in-At.is c.index.ensures.put; upper_bound = c.index.ensures.upper_bound }
 
-pub returns-in-Nothing-clause-put : goal.returns-in-Nothing-clause-put
+pub returns-in-Nothing : goal.returns-in-Nothing
 unfolding series_text
-returns-in-Nothing-clause-put c = rw c.in-Nothing.is (nothing _ _)
+returns-in-Nothing c = record { put = rw c.in-Nothing.is (nothing _ _); upper_bound = omega arith }
