@@ -14,7 +14,8 @@ loop-i-preserved c =
     let call = c.series_futures-next.ensures in
     (omega arith, search rules, omega (arith, call.upper_bound), in_turn_next c.loop-i.i _ c.loop-i.invariant.3 call.put)
 
-pub returns-clause-put : goal.returns-clause-put
-returns-clause-put c =
-    let all : c.loop-i.i ≡ series_room = omega arith in
-    rw all at c.loop-i.invariant.3
+pub returns : goal.returns
+returns c =
+    let loop = c.loop-i in
+    let all : loop.i ≡ series_room = omega arith in
+    record { put = rw all at loop.invariant.3; upper_bound = omega arith }

@@ -42,12 +42,13 @@ overflow_sub-arisen c = fits w64 (difference c) tt
 
 pub loop-a-preserved : goal.loop-a-preserved
 loop-a-preserved c =
-    let a = c.loop-a.a in
-    let put = text_of (futures_line c.args.row c.args.i a) (local w64 (difference (goal.at.loop-a-preserved c).After-of_account-in-loop-a) tt).is c.futures-next.ensures.put in
-    (omega arith, search rules, omega (arith, c.futures-next.ensures.upper_bound), in_turn_next a _ c.loop-a.invariant.3 put)
+    let sums = (goal.at.loop-a-preserved c).After-of_account-in-loop-a in
+    let put = text_of (futures_line c.args.row c.args.i c.loop-a.a) (local w64 (difference sums) tt).is c.futures-next.ensures.put in
+    (omega arith, search rules, omega (arith, c.futures-next.ensures.upper_bound), in_turn_next c.loop-a.a _ c.loop-a.invariant.3 put)
 
-pub returns-clause-put : goal.returns-clause-put
+pub returns : goal.returns
 unfolding series_lines
-returns-clause-put c =
-    let all : c.loop-a.a ≡ accounts = omega arith in
-    rw all at c.loop-a.invariant.3
+returns c =
+    let loop = c.loop-a in
+    let all : loop.a ≡ accounts = omega arith in
+    record { put = rw all at loop.invariant.3; upper_bound = omega arith }

@@ -6,8 +6,12 @@ use Rattle.report.specs.Report.{answer_line}
 use Rattle.report.proofs.Fields.{text_of}
 use Rattle.row_lines.proofs.answered.Goals as goal
 
-pub returns-clause-put : goal.returns-clause-put
-returns-clause-put c =
-    text_of (answer_line c.args.row _ _) c.answer_number-number.ensures
-    (text_of (λ (p : Period). answer_line c.args.row (rule.named c.args.answer) p c.answer_number-number.result) c.period-told.ensures
-    (text_of (λ (f : Found). answer_line c.args.row f c.period-told.result c.answer_number-number.result) c.named-found.ensures c.answer.ensures.put))
+pub returns : goal.returns
+returns c =
+    let row = c.args.row in
+    let answer = c.args.answer in record {
+      put = text_of (answer_line row _ _) c.answer_number-number.ensures
+          (text_of (λ (p : Period). answer_line row (rule.named answer) p c.answer_number-number.result) c.period-told.ensures
+          (text_of (λ (f : Found). answer_line row f c.period-told.result c.answer_number-number.result) c.named-found.ensures c.answer.ensures.put));
+      upper_bound = c.answer.ensures.upper_bound;
+    }

@@ -3,15 +3,12 @@ use mathlib.Core.Path.{◌≡◌, refl}
 use native.Mathlib.Omega.{arith}
 use lib.Dec.{lit<}
 use mir.Facts.{to_z-of_z}
-use mir.Val.{SFits}
 use mir.Syntax.{w64}
 use borrow.Author.Rules.{rules}
-use Rattle.integer.specs.Table.{at}
 use Rattle.terms.specs.Bounds.{accounts}
 use Rattle.report.specs.Report.{money_line}
 use Rattle.report.proofs.Fields.{text_of}
 use Rattle.report.proofs.InTurn.{in_turn_put, in_turn_next, element_fits}
-use Rattle.row_lines.proofs.money.Goals.{Start}
 use Rattle.row_lines.proofs.money.Goals as goal
 
 pub loop-a-init : goal.loop-a-init
@@ -20,11 +17,13 @@ loop-a-init c = (omega arith, refl, omega arith, in_turn_put _ _ _)
 pub loop-a-preserved : goal.loop-a-preserved
 loop-a-preserved c =
     let a = c.loop-a.a in
-    let z : SFits w64 (at c.args.money a) = element_fits w64 (lit< tt) accounts c.args.money _ c.well_formed.1.1.1.0 a in
-    let put = text_of (money_line c.args.row a) (to_z-of_z z) c.money-next.ensures.put in
-    (omega arith, search rules, omega arith, in_turn_next a _ c.loop-a.invariant.3 put)
+    -- each account's money is a number of 64 bits
+    let within = element_fits w64 (lit< tt) accounts c.args.money _ c.well_formed.1.1.1.0 a in
+    let put = text_of (money_line c.args.row a) (to_z-of_z within) c.money-next.ensures.put in
+    (omega arith, search rules, omega (arith, c.money-next.ensures.upper_bound), in_turn_next a _ c.loop-a.invariant.3 put)
 
-pub returns-clause-put : goal.returns-clause-put
-returns-clause-put c =
-    let all : c.loop-a.a ≡ accounts = omega arith in
-    rw all at c.loop-a.invariant.3
+pub returns : goal.returns
+returns c =
+    let loop = c.loop-a in
+    let all : loop.a ≡ accounts = omega arith in
+    record { put = rw all at loop.invariant.3; upper_bound = omega arith }
