@@ -37,9 +37,7 @@ unfolding series_row_at
 returns-then-series-ge-SERIES c = search (end_found, row_on_none) depth 12
 
 pub overflow_add-result : goal.overflow_add-result
-overflow_add-result c =
-    let r = c.before.before.before.before.before.before.before in
-    omega (arith, (ends r).1, r.before.before.before.before.before.before.well-formed.1.0)
+overflow_add-result c = omega (arith, (ends (goal.at.overflow_add-result c).In-At).1, c.well_formed.1.0)
 
 pub returns : goal.returns
 unfolding series_row_at
