@@ -19,8 +19,8 @@ use Rattle.row_lines.proofs.money.Goals.{Start}
 use Rattle.row_lines.proofs.money.Goals as goal
 
 -- each account's money is a number of 64 bits
-amount-fits : (c : Start) (a : ℕ) → SFits w64 (at c.args.money a)
-amount-fits c a = element_fits w64 (lit< tt) accounts c.args.money _ c.well-formed.1.1.1.0 a
+amount_fits : (c : Start) (a : ℕ) → SFits w64 (at c.args.money a)
+amount_fits c a = element_fits w64 (lit< tt) accounts c.args.money _ c.well-formed.1.1.1.0 a
 
 pub loop-a-init : goal.loop-a-init
 loop-a-init c = (omega arith, refl, omega arith, in_turn_put _ _ _)
@@ -33,7 +33,7 @@ loop-a-preserved c =
     let start = c.before.before.before.before.before.before.before.before in
     let loop = c.before.before.before.before.before.before in
     let a = loop.loop-a.a in
-    let put = text_of (money_line start.args.row a) (to_z-of_z (amount-fits start a)) c.money-next.ensures.0 in
+    let put = text_of (money_line start.args.row a) (to_z-of_z (amount_fits start a)) c.money-next.ensures.0 in
     (omega arith, search rules, omega (arith, c.money-next.ensures.1), in_turn_next a _ loop.loop-a.invariant.3 put)
 
 pub shape_of-out : goal.shape_of-out
