@@ -6,6 +6,3 @@ use Rattle.apply.proofs.mark.Goals as goal
 
 pub returns-in-Marked : goal.returns-in-Marked
 returns-in-Marked c = rw c.in-Marked.is refl
-
-pub returns-in_default : goal.returns-in_default
-returns-in_default c = not_marked c.args.effect _ c.match.keys2

@@ -7,11 +7,7 @@ use Rattle.apply.proofs.move_positions.Goals as goal
 
 pub trade-requires : goal.trade-requires
 trade-requires c =
-    let s = c.before.before.before.before in
-    (fits_trade (rw c.in-Traded.is at s.requires.0), s.requires.1)
+    (fits_trade (rw c.in-Traded.is at c.requires.0), c.requires.1)
 
 pub returns-in-Traded : goal.returns-in-Traded
 returns-in-Traded c = rw c.in-Traded.is c.trade.ensures
-
-pub returns-in_default : goal.returns-in_default
-returns-in_default c = not_moved c.args.effect _ c.match.keys2

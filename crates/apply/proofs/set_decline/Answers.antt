@@ -20,6 +20,3 @@ returns-in-Requested c = rw c.in-Requested.is c.decline.ensures
 
 pub returns-in-Declined : goal.returns-in-Declined
 returns-in-Declined c = rw c.in-Declined.is c.decline-in-Declined.ensures
-
-pub returns-in_default : goal.returns-in_default
-returns-in_default c = not_declined c.args.effect _ c.match.keys3

@@ -26,6 +26,3 @@ returns-in-Requested c = rw c.in-Requested.is c.request.ensures
 
 pub returns-in-Declined : goal.returns-in-Declined
 returns-in-Declined c = rw c.in-Declined.is c.request-in-Declined.ensures
-
-pub returns-in_default : goal.returns-in_default
-returns-in_default c = not_requested c.args.effect _ c.match.keys3

@@ -93,7 +93,7 @@ pub bounds-coefficients-series : goal.bounds-coefficients-series
 bounds-coefficients-series c = (within c.before.before.before.before).series
 
 pub amount-due-requires : goal.amount-due-requires
-amount-due-requires c = (within c.before.before.before.before, c.requires.2.each _)
+amount-due-requires c = record { trade_within = within c.before.before.before.before; coefficient_le_max_tick_value = c.requires.2.each _ }
 
 pub offset_bounds-out-buyer : goal.offset_bounds-out-buyer
 offset_bounds-out-buyer c = omega (arith, bought (turn c), sold (turn c))

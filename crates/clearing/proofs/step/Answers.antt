@@ -6,73 +6,69 @@ use Rattle.terms.specs.Bounds.{blotter_room, max_position}
 use Rattle.integer.specs.Bounds.{Bounded}
 use Rattle.book.specs.Effects.{Fits}
 use Rattle.book.specs.Good.{Good}
-use Rattle.book.specs.State.{series_at}
+use Rattle.book.specs.State.{series_at, today_of}
 use Rattle.book.specs.Step.{step_of}
+use Rattle.book.specs.declared.state.Book.{Book}
+use Rattle.book.specs.declared.state.Event.{Event}
 use Rattle.book.specs.declared.state.Step.{Step}
 use Rattle.book.proofs.Effects.{next_record_within, effect_fits, step_stored}
 use Rattle.book.proofs.Keeps.{stays_good}
 use borrow.Author.Rules.{rules}
-use Rattle.clearing.proofs.step.Goals.{After-effect-effect, After-next_record-n, Start}
+use Rattle.clearing.proofs.step.Goals.{After-effect-effect, After-next_record-n}
 use Rattle.clearing.proofs.step.Goals as goal
 
-stepped : (c : Start) {r : Step} → r ≡ step_of c.args.book c.args.event → (r ≡ step_of c.args.book c.args.event) × Good r.book
-stepped c is = (is, stays_good c.args.book c.args.event _ c.requires is)
+stepped : (b : Book) (e : Event) → Good b → {r : Step} → r ≡ step_of b e → (r ≡ step_of b e) × Good r.book
+stepped b e g is = (is, stays_good b e _ g is)
 
 -- where the effect is known
-abbrev start : After-effect-effect → Start
-start c = c.before.before.before.before.before.before.before.before
-
-bounded : (c : After-effect-effect) → Bounded max_position (series_at (start c).args.book c.series_of-i.result).positions
-bounded c = ((start c).requires.series c.series_of-i.result c.if-i-ge-SERIES.false).positions.bounded
+bounded : (c : After-effect-effect) → Bounded max_position (series_at c.args.book c.series_of-i.result).positions
+bounded c = (c.requires.series c.series_of-i.result c.if-i-ge-SERIES.false).positions.bounded
 
 fits : (c : After-effect-effect) → Fits c.effect-effect.result
-fits c = rw c.effect-effect.ensures (effect_fits _ _ _ (bounded c) (start c).args.event)
+fits c = rw c.effect-effect.ensures (effect_fits (today_of c.args.book) (series_at c.args.book c.series_of-i.result).listing _ (bounded c) c.args.event)
 
 trade_type : (c : After-next_record-n) → c.next_record-n.result < blotter_room
 trade_type c = rw c.next_record-n.ensures (next_record_within _)
 
 pub returns-then-i-ge-SERIES : goal.returns-then-i-ge-SERIES
-returns-then-i-ge-SERIES c = stepped c.before.before.before c.whole.ensures
+returns-then-i-ge-SERIES c = stepped c.args.book c.args.event c.requires c.whole.ensures
 
 pub effect-effect-requires : goal.effect-effect-requires
 effect-effect-requires c = let n = c.series_of-i in rw (← n.ensures) (c.requires.tick n.result)
 
 pub move_positions-requires : goal.move_positions-requires
-move_positions-requires c = (fits c.before, bounded c.before)
+move_positions-requires c =
+    let known = (goal.at.move_positions-requires c).After-effect-effect in
+    (fits known, bounded known)
 
 pub set_request-requires : goal.set_request-requires
-set_request-requires c = fits c.before.before.before
+set_request-requires c = fits (goal.at.set_request-requires c).After-effect-effect
 
 pub set_decline-requires : goal.set_decline-requires
-set_decline-requires c = fits c.before.before.before.before.before
+set_decline-requires c = fits (goal.at.set_decline-requires c).After-effect-effect
 
 pub offset_bounds-book-n : goal.offset_bounds-book-n
-offset_bounds-book-n c = omega (arith, trade_type c)
+offset_bounds-book-n c = omega (arith, trade_type (goal.at.offset_bounds-book-n c).After-next_record-n)
 
 pub bounds-book-n : goal.bounds-book-n
-bounds-book-n c = trade_type c
+bounds-book-n c = trade_type (goal.at.bounds-book-n c).After-next_record-n
 
 pub offset_bounds-book-n-2 : goal.offset_bounds-book-n-2
-offset_bounds-book-n-2 c = omega (arith, trade_type c.before.before)
+offset_bounds-book-n-2 c = omega (arith, trade_type (goal.at.offset_bounds-book-n-2 c).After-next_record-n)
 
 pub bounds-book-n-2 : goal.bounds-book-n-2
-bounds-book-n-2 c = trade_type c.before.before
+bounds-book-n-2 c = trade_type (goal.at.bounds-book-n-2 c).After-next_record-n
 
 pub returns : goal.returns
 returns c =
-    let entered = c.before.before in
-    let recorded = entered.before.before in
-    let marked = recorded.before in
-    let h = marked.before.before.before.before.before.before.before in
-    let s = start h in
-    stepped s
-    (step_stored s.args.book s.args.event _ _ h.series_of-i.ensures h.if-i-ge-SERIES.false recorded.next_record-n.ensures _ h.effect-effect.ensures
+    stepped c.args.book c.args.event c.requires
+    (step_stored c.args.book c.args.event _ _ c.series_of-i.ensures c.if-i-ge-SERIES.false c.next_record-n.ensures _ c.effect-effect.ensures
     (record {
       answer = c.answer.ensures;
-      moved = marked.move_positions.ensures;
-      requested = marked.set_request.ensures;
-      declining = marked.set_decline.ensures;
-      mark = marked.mark-marked.ensures;
-      recorded = entered.entry-entry.ensures;
+      moved = c.move_positions.ensures;
+      requested = c.set_request.ensures;
+      declining = c.set_decline.ensures;
+      mark = c.mark-marked.ensures;
+      recorded = c.entry-entry.ensures;
       counted = c.counted.ensures;
     }))

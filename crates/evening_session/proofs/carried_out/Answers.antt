@@ -89,20 +89,20 @@ revalue_series-requires c =
     let i = l.loop-i.i in
     let h = l.loop-i.invariant in
     let good : GoodSeries (first l).day (get_or l.loop-i.book.series i no_series) = rw (passed_here (first l) g (settledOn (first l)) h l.loop-i-test.true) (g.series i (room l)) in
-    let left = passed_left (first l) g (settledOn (first l)) h l.loop-i-test.true _ c.before.after_evening_lem.ensures in
-    let limited : Limited max_position c.before.after_evening_lem.result.positions = rw left (settled_limited (first l) g _ refl i (room l)) in
+    let left = passed_left (first l) g (settledOn (first l)) h l.loop-i-test.true _ c.after_evening-next.ensures in
+    let limited : Limited max_position c.after_evening-next.result.positions = rw left (settled_limited (first l) g _ refl i (room l)) in
     (passed_costs (first l) g (settledOn (first l)) h l.loop-i-test.true, good, search (limited, good.limited))
 
 pub offset_bounds-book-i-in-loop-i : goal.offset_bounds-book-i-in-loop-i
-offset_bounds-book-i-in-loop-i c = omega (arith, room c.before.before.before.before)
+offset_bounds-book-i-in-loop-i c = omega (arith, room (goal.at.offset_bounds-book-i-in-loop-i c).In-loop-i)
 
 pub bounds-book-i-in-loop-i : goal.bounds-book-i-in-loop-i
-bounds-book-i-in-loop-i c = room c.before.before.before.before
+bounds-book-i-in-loop-i c = room (goal.at.bounds-book-i-in-loop-i c).In-loop-i
 
 pub loop-i-preserved : goal.loop-i-preserved
 loop-i-preserved c =
-    let l = c.before.before.before.before in
-    passed_next (first l) (start l).requires.0 (settledOn (first l)) l.loop-i.invariant l.loop-i-test.true _ c.before.before.after_evening_lem.ensures _ c.revalue_series.ensures
+    let l = (goal.at.loop-i-preserved c).In-loop-i in
+    passed_next (first l) (start l).requires.0 (settledOn (first l)) l.loop-i.invariant l.loop-i-test.true _ c.after_evening-next.ensures _ c.revalue_series.ensures
 
 pub less-rest-requires : goal.less-rest-requires
 less-rest-requires c =
@@ -152,7 +152,7 @@ cash c =
     ∙ paid_into_lem b.cash (evening_money b) _ (money n)
 
 pub overflow_add-book : goal.overflow_add-book
-overflow_add-book c = omega (arith, (begun (all c.before.before)).pre.1)
+overflow_add-book c = omega (arith, c.requires.1)
 
 pub returns : goal.returns
 returns c =

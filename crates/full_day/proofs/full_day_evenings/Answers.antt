@@ -27,14 +27,13 @@ loop-n-smaller c = omega (arith, c.loop-n-test.true)
 -- the book after one evening
 next_day : (c : After-wrapping_add_u64-carried_out) → c.step-step.result.book ≡ rule.next_day
 next_day c =
-    let full = c.before.before.before.before.before in
     ap (λ (s : Step). s.book) c.step-step.ensures.0
-    ∙ ap (λ (b : Book). (step_of b Evening).book) (full.after-full.ensures.0 ∙ ap (λ (b : Book). rule.after b 0 rule.events) full.empty.ensures.0)
+    ∙ ap (λ (b : Book). (step_of b Evening).book) (c.after-full.ensures.0 ∙ ap (λ (b : Book). rule.after b 0 rule.events) c.empty.ensures.0)
 
 pub loop-n-preserved : goal.loop-n-preserved
 loop-n-preserved c =
     let l = c.loop-n in
-    (c.wrapping_add_u64-carried_out.ensures ∙ rw (next_day c) (one_more l.n (rule.next_day).day l.carried_out_lem l.invariant.0), omega (arith, c.loop-n-test.true))
+    (c.wrapping_add_u64-carried_out.ensures.value ∙ rw (next_day c) (one_more l.n (rule.next_day).day l.carried_out l.invariant.0), omega (arith, c.loop-n-test.true))
 
 pub returns : goal.returns
 returns c =

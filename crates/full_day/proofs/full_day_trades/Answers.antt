@@ -25,14 +25,13 @@ loop-n-smaller c = omega (arith, c.loop-n-test.true)
 -- the trades of one day
 traded : (c : After-wrapping_add_u64-carried_out) → c.after-book.result ≡ rule.traded
 traded c =
-    let listed = c.before.before.before.before in
     c.after-book.ensures.0
-    ∙ ap (λ (b : Book). rule.after b series_room blotter_room) (listed.after-listed.ensures.0 ∙ ap (λ (b : Book). rule.after b 0 series_room) listed.empty.ensures.0)
+    ∙ ap (λ (b : Book). rule.after b series_room blotter_room) (c.after-listed.ensures.0 ∙ ap (λ (b : Book). rule.after b 0 series_room) c.empty.ensures.0)
 
 pub loop-n-preserved : goal.loop-n-preserved
 loop-n-preserved c =
     let l = c.loop-n in
-    (c.wrapping_add_u64-carried_out.ensures ∙ rw (traded c) (one_more l.n (rule.traded).trades l.carried_out_lem l.invariant.0), omega (arith, c.loop-n-test.true))
+    (c.wrapping_add_u64-carried_out.ensures.value ∙ rw (traded c) (one_more l.n (rule.traded).trades l.carried_out l.invariant.0), omega (arith, c.loop-n-test.true))
 
 pub returns : goal.returns
 returns c =

@@ -83,14 +83,14 @@ revalue_series-requires c =
     )
 
 pub offset_bounds-book-i-in-loop-i : goal.offset_bounds-book-i-in-loop-i
-offset_bounds-book-i-in-loop-i c = omega (arith, room c.before.before.before.before)
+offset_bounds-book-i-in-loop-i c = omega (arith, room (goal.at.offset_bounds-book-i-in-loop-i c).In-loop-i)
 
 pub bounds-book-i-in-loop-i : goal.bounds-book-i-in-loop-i
-bounds-book-i-in-loop-i c = room c.before.before.before.before
+bounds-book-i-in-loop-i c = room (goal.at.bounds-book-i-in-loop-i c).In-loop-i
 
 pub loop-i-preserved : goal.loop-i-preserved
 loop-i-preserved c =
-    let l = c.before.before.before.before in
+    let l = (goal.at.loop-i-preserved c).In-loop-i in
     passed_next (first l) (start l).requires unmarked l.loop-i.invariant l.loop-i-test.true _ c.after_intraday-next.ensures _ c.revalue_series.ensures
 
 pub in_all-money-requires : goal.in_all-money-requires

@@ -12,4 +12,4 @@ pub returns-in-At : goal.returns-in-At
 returns-in-At c = by_refusal _ Evening c.refused-in-At.ensures (search (hit, past, tests, mark_missing))
 
 pub returns : goal.returns
-returns c = by_allowance _ Evening c.carried_out_lem.ensures (past _ (search tests) (search none_missing))
+returns c = by_allowance _ Evening c.carried_out.ensures (past _ (search tests) (search none_missing))

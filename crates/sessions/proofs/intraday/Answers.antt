@@ -15,4 +15,4 @@ pub returns-in-At : goal.returns-in-At
 returns-in-At c = by_refusal _ Intraday c.refused-in-At.ensures (search (hit, past, tests, mark_missing))
 
 pub returns : goal.returns
-returns c = by_allowance _ Intraday c.carried_out_lem.ensures (past _ (search tests) (past _ (search tests) (none_missing c.first_unmarked.ensures c.in_default.is)))
+returns c = by_allowance _ Intraday c.carried_out.ensures (past _ (search tests) (past _ (search tests) (none_missing c.first_unmarked.ensures c.in_default.is)))

@@ -2,7 +2,6 @@
 use Prim.Native.Nat.{ℕ, ◌*◌, ◌^◌, ◌<◌, ◌≤◌}
 use native.Mathlib.Nat.{mul-le-mul}
 use native.Mathlib.Omega.{arith}
-use borrow.Author.Rules.{rules}
 use Rattle.valuation.proofs.value.Goals as goal
 
 product-fits : (x y : ℕ) → x ≤ 4294967295 → y ≤ 4294967295 → x * y < 2 ^ 64

@@ -31,4 +31,4 @@ returns c =
     let day = b.args.day in
     let positions = c.closing-positions.ensures ∙ closed s day _ (ap (λ (o : Outcome). o.positions) e.evening-outcome.ensures) in
     let futures = c.grown.ensures ∙ futures_grown s day _ (ap (λ (o : Outcome). o.futures) e.evening-outcome.ensures) in
-    λ i. with_evening (with_requests (with_mark s (c.before.no_mark_lem.ensures i)) (replicate places 0) (replicate places false)) s.mark.option (positions i) (futures i)
+    λ i. with_evening (with_requests (with_mark s (c.no_mark-mark.ensures i)) (replicate places 0) (replicate places false)) s.mark.option (positions i) (futures i)

@@ -13,7 +13,7 @@ use Rattle.trading.proofs.effect.trade.Goals.{In_default, Start}
 use Rattle.trading.proofs.effect.trade.Goals as goal
 
 abbrev start : In_default → Start
-start c = c.before.before.before
+start c = c.before.before
 
 -- the verdict allows it
 allowed : (c : In_default) → TradeAllowed (start c).args.today (start c).args.listing (start c).args.positions.now (start c).args.deal
