@@ -1,5 +1,6 @@
 // The buffers of a replay: input that is read and kept, output that waits, and the replay up to a place of its input.
 #![tactic(auto)]
+
 ghost use Rattle.std.specs.Prelude.{◌≤◌, ◌<◌, ◌+◌, ◌≡◌, ◌++◌, length, take, drop, true};
 ghost use Rattle.report.specs.Report.{answer_of, no_calendar};
 ghost use Rattle.rows.specs.Cut.{kept_bytes, kept};
