@@ -3,7 +3,6 @@ use mathlib.Core.Path.{refl, ap}
 use Rattle.book.specs.declared.state.Event.TheVariants.{Evening}
 use Rattle.book.specs.declared.state.Step.{Step}
 use Rattle.book.proofs.Keeps.{stays_good}
-use borrow.Author.Rules.{rules}
 use Rattle.event_row.proofs.evening_row.Goals as goal
 
 pub returns : goal.returns

@@ -5,7 +5,6 @@ use Rattle.book.specs.declared.state.Event.{Event}
 use Rattle.book.specs.declared.state.Event.TheVariants.{List, Trade, Exercise, Decline, Mark, Intraday, Evening}
 use Rattle.book.proofs.Live.{false_not_true}
 use Rattle.report.specs.Report.{is_session}
-use borrow.Author.Rules.{rules}
 use Rattle.event_row.proofs.event_row.Goals as goal
 
 -- a session that is not the evening's

@@ -6,7 +6,6 @@ use Rattle.book.specs.declared.state.Step.{Step}
 use Rattle.book.proofs.Keeps.{stays_good}
 use Rattle.report.proofs.Fields.{◌then◌}
 use Rattle.report.proofs.Quiet.{intraday_report}
-use borrow.Author.Rules.{rules}
 use Rattle.event_row.proofs.intraday_row.Goals as goal
 
 pub returns : goal.returns

@@ -3,7 +3,6 @@ use mathlib.Core.Path.{refl, ap}
 use native.Mathlib.Omega.{arith}
 use Rattle.book.specs.declared.state.Step.{Step}
 use Rattle.report.proofs.Quiet.{quiet_report}
-use borrow.Author.Rules.{rules}
 use Rattle.event_row.proofs.quiet_row.Goals as goal
 
 pub returns : goal.returns
