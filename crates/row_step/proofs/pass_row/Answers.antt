@@ -1,5 +1,5 @@
 -- `row_step::pass_row` meets its contract: the row is answered, and the replay is ready for the next.
-use Rattle.std.proofs.Common.{arith, rules}
+use Rattle.std.proofs.Common.{arith}
 use Rattle.stream.proofs.Lines.{row_answered}
 use Rattle.row_step.proofs.pass_row.Goals as goal
 
