@@ -1,6 +1,7 @@
 // Replays rows of events: standard input to standard output, in a loop that holds the book. The trading calendar is that of the file
 // calendar.txt.
 #![tactic(auto)]
+
 ghost use Rattle.std.specs.Prelude.{◌≤◌, ◌<◌, ◌≡◌, length, take};
 ghost use Rattle.calendar.specs.Days.{max_dates, dates_of};
 ghost use Rattle.calendar.specs.Text.{read_as, Few};
