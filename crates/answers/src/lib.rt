@@ -1,5 +1,6 @@
 // What an answer's line tells: the number of the answer or of the row's refusal, the series that it names and the period.
 #![tactic(auto)]
+
 pub mod number; // number.rt: rows that are refused before they reach the book
 
 ghost use Rattle.std.specs.Prelude.{◌≡◌};

@@ -8,7 +8,6 @@ use native.Mathlib.Omega.{arith}
 use lib.IntN.{ℤ}
 use lib.ListN.{length, get_or, set, length-set}
 use lib.Seq.{ext_get_or, get_or-set_same, get_or-set_other, set-get_or}
-use Rattle.integer.specs.Table.{table}
 use Rattle.integer.proofs.Table.{length_table, get_or_table, is_table}
 use Rattle.margin.specs.declared.trade.Trade as trade_type
 use Rattle.terms.specs.Bounds.{series_room}

@@ -7,14 +7,22 @@ ghost use Rattle.stream.specs.Output.{Ready, TurnedBy};
 
 use buffers::keep;
 use rows_in_place::whole_rows;
+use std::io::Write;
 use stream::types::{Replay, Run};
 
 // The rows that end in the buffer, whose input goes up to a place: all of it as one piece.
-pub fn pass(calendar: &[u64], buf: &mut [u8], out: &mut [u8], replay: Replay, end: usize) -> Run
+pub fn pass<W: Write>(
+    output: &mut W,
+    calendar: &[u64],
+    buf: &mut [u8],
+    out: &mut [u8],
+    replay: Replay,
+    end: usize,
+) -> Run
     requires { (Ready replay out.old) × (end ≤ length buf.old) }
     ensures { TurnedBy (dates_of calendar.now) (piece (take end buf.old)) [] replay out.old result buf.new out.new }
 {
-    let passed = whole_rows(calendar, &buf[..end], out, replay);
+    let passed = whole_rows(output, calendar, &buf[..end], out, replay);
     let left = keep(buf, passed.from, end);
     let next = passed.replay;
     let intact = next.intact;

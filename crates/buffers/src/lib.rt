@@ -1,5 +1,6 @@
 // The buffers of a replay: input that is read and kept, output that waits, and the replay up to a place of its input.
 #![tactic(auto)]
+
 ghost use Rattle.std.specs.Prelude.{◌≤◌, ◌<◌, ◌+◌, ◌≡◌, ◌++◌, length, take, drop, true};
 ghost use Rattle.report.specs.Report.{answer_of, no_calendar};
 ghost use Rattle.rows.specs.Cut.{kept_bytes, kept};
@@ -8,19 +9,18 @@ ghost use Rattle.stream.specs.Output.{output_room, waiting_room};
 ghost use Rattle.stream.specs.Parts.{Flushed};
 
 use book::state::{Answer, Book};
+use std::io::{Read, Write};
 use stream::bounds::WAITING_ROOM;
 use stream::types::{Input, Passed, Replay, Waiting};
 
 // Reads of a file behind what is kept, where there is room: a read of no bytes is the file's end.
-pub fn fill(fd: i32, buf: &mut [u8], have: usize) -> Input
+pub fn fill<R: Read>(input: &mut R, buf: &mut [u8], have: usize) -> Input
     requires { have < length buf.old }
     ensures { (InRoom have (length buf.old) result) × (take have buf.new ≡ take have buf.old) }
 {
-    let got = libc::read(fd, &mut buf[have..]);
-    if got < 0 {
+    let Ok(n) = input.read(&mut buf[have..]) else {
         return Input::Failed;
-    }
-    let n = io::count(got, &buf[have..]);
+    };
     if n == 0 {
         return Input::Ended;
     }
@@ -53,7 +53,7 @@ pub fn up_to(book: Book, row: u64, at: usize, intact: bool, from: usize) -> Pass
 }
 
 // Room for the lines of one more row: where there is none, what waits is let go. It is written, unless a write has failed before.
-pub fn flushed(out: &mut [u8], end: usize, intact: bool) -> Waiting
+pub fn flushed<W: Write>(output: &mut W, out: &mut [u8], end: usize, intact: bool) -> Waiting
     requires { end ≤ length out.old }
     ensures { Flushed (take end out.old) intact result out.new }
 {
@@ -69,7 +69,7 @@ pub fn flushed(out: &mut [u8], end: usize, intact: bool) -> Waiting
             intact: false,
         };
     }
-    let written = io::write_all(1, &out[..end]);
+    let written = output.write_all(&out[..end]).is_ok();
     Waiting {
         at: 0,
         intact: written,
@@ -77,12 +77,19 @@ pub fn flushed(out: &mut [u8], end: usize, intact: bool) -> Waiting
 }
 
 // The line of an answer behind what waits.
-pub fn put_answer(out: &mut [u8], at: usize, row: u64, answer: Answer, intact: bool) -> Waiting
+pub fn put_answer<W: Write>(
+    output: &mut W,
+    out: &mut [u8],
+    at: usize,
+    row: u64,
+    answer: Answer,
+    intact: bool,
+) -> Waiting
     requires { (at ≤ waiting_room) × (output_room ≤ length out.old) }
     ensures { Flushed (take at out.old ++ answer_of row answer) intact result out.new }
 {
     let end = row_lines::answered(out, at, row, answer);
-    flushed(out, end, intact)
+    flushed(output, out, end, intact)
 }
 
 // Where the calendar is refused, that stands in place of all rows.

@@ -1,5 +1,6 @@
 // The day of a date in the trading calendar.
 #![tactic(auto)]
+
 ghost use Rattle.std.specs.Prelude.{◌≡◌};
 ghost use Rattle.calendar.specs.Days.{same_date, date_of, dates_of, day_of};
 

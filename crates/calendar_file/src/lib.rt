@@ -2,22 +2,25 @@
 #![tactic(auto)]
 ghost use Rattle.std.specs.Prelude.{◌+◌, ◌<◌, ◌≡◌, length};
 ghost use Rattle.calendar.specs.Text.{max_text};
-ghost use Rattle.calendar.specs.File.{InBuffer, LoadedFrom, LoadedBy, Loaded, max_path, path_of};
+ghost use Rattle.calendar.specs.File.{InBuffer, LoadedFrom, LoadedBy, Loaded};
 
 use buffers::fill;
 use calendar::bounds::MAX_TEXT;
 use calendar::types::{CalendarRead, Contents, Opened, Reading};
 use calendar_found::{of_contents, opened, without_dates};
-use libc::PATH_MAX;
+use std::fs;
+use std::io;
+use std::io::{ErrorKind, Read};
+use std::rt::Files;
 use stream::types::Input;
 
 // Reads until the file ends or the buffer is full.
-fn contents(fd: i32, buf: &mut [u8]) -> Contents
+fn contents<R: Read>(input: &mut R, buf: &mut [u8]) -> Contents
     ensures { InBuffer (length buf.old) result }
 {
     let mut have = 0;
     while have < buf.len() {
-        match fill(fd, buf, have) {
+        match fill(input, buf, have) {
             Input::UpTo(end) => {
                 have = end;
             }
@@ -33,63 +36,62 @@ fn contents(fd: i32, buf: &mut [u8]) -> Contents
 }
 
 // The calendar that a file holds: a byte more than those of the longest calendar is asked for, and no more.
-fn read_through(fd: i32, buf: &mut [u8]) -> CalendarRead
+fn read_through<R: Read>(input: &mut R, buf: &mut [u8]) -> CalendarRead
     requires { length buf.old ≡ max_text + 1 }
     ensures { LoadedFrom result }
 {
-    let found = contents(fd, buf);
+    let found = contents(input, buf);
     of_contents(found, buf)
 }
 
-fn read_file(fd: i32) -> CalendarRead
+// The calendar of a file that was opened, which is closed then; of one that wasn't nothing is read.
+fn read_file<R: Read + Drop>(input: io::Result<R>) -> CalendarRead
     ensures { LoadedFrom result }
 {
     let mut space = [0; MAX_TEXT + 1];
     let buf: &mut [u8] = &mut space;
-    let read = read_through(fd, buf);
-    libc::close(fd);
-    read
+    match input {
+        Ok(mut file) => read_through(&mut file, buf),
+        Err(_) => of_contents(Contents::NotRead, buf),
+    }
 }
 
 // The calendar by what opening its file told.
-fn load_by(found: Opened, fd: i32) -> CalendarRead
+fn load_by<R: Read + Drop>(input: io::Result<R>, found: Opened) -> CalendarRead
     ensures { LoadedBy found result }
 {
     match found {
         Opened::Missing => without_dates(Reading::Dates(0)),
         Opened::Unreadable => without_dates(Reading::NoCalendar),
-        Opened::Readable => read_file(fd),
+        Opened::Readable => read_file(input),
     }
 }
 
-// A name as C reads it: its bytes, and then zeros.
-fn path_of(name: &[u8]) -> [u8; PATH_MAX]
-    requires { length name.now < max_path }
-    ensures { result ≡ path_of name.now }
-{
-    let mut path = [0; PATH_MAX];
-    let out: &mut [u8] = &mut path;
-    put::bytes(out, 0, name);
-    path
+// Whether opening it failed for want of such a file.
+fn is_missing<R>(input: &io::Result<R>) -> bool {
+    match input {
+        Ok(_) => false,
+        Err(why) => why.kind() == ErrorKind::NotFound,
+    }
 }
 
 // Whether a link has this name, wherever it leads.
-fn is_link(name: &[u8]) -> bool
-    requires { length name.now < max_path }
-{
-    let path = path_of(name);
-    let mut text = [0; 1];
-    libc::readlink(&path, &mut text) >= 0
+fn is_link<H: Files>(files: &H, name: &str) -> bool {
+    match fs::symlink_metadata(files, name) {
+        Ok(found) => found.is_symlink(),
+        Err(_) => false,
+    }
 }
 
 // The calendar of the file calendar.txt: without dates where there is none, and no calendar where it can't be read.
-pub fn load() -> CalendarRead
+pub fn load<H: Files>(files: &H) -> CalendarRead
     ensures { Loaded result }
 {
-    let name: &[u8] = b"calendar.txt";
-    let fd = os::open_read(name);
-    let missing = os::errno() == libc::ENOENT;
-    let link = is_link(name);
-    let found = opened(fd >= 0, link, missing);
-    load_by(found, fd)
+    let name = "calendar.txt";
+    let input = fs::open(files, name);
+    let readable = input.is_ok();
+    let missing = is_missing(&input);
+    let link = is_link(files, name);
+    let found = opened(readable, link, missing);
+    load_by(input, found)
 }

@@ -1,5 +1,6 @@
 // The trading calendar by what is found of its file.
 #![tactic(auto)]
+
 ghost use Rattle.std.specs.Prelude.{◌≡◌, length, replicate};
 ghost use Rattle.calendar.specs.Days.{max_dates};
 ghost use Rattle.calendar.specs.Text.{ReadAs};

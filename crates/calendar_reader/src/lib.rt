@@ -1,5 +1,6 @@
 // The reader of a trading calendar: DDMMYY and CRLF a line, the last may lack it.
 #![tactic(auto)]
+
 ghost use Rattle.std.specs.Prelude.{◌≡◌};
 ghost use Rattle.contract.specs.Date.{TwoDigitsEach};
 ghost use Rattle.calendar.specs.Days.{number_of};

@@ -1,6 +1,7 @@
 // Contract codes, as GAZR-3.23M150323CA17000 and GAZR-3.23M150323CA 17000: the reader, the writer, and the futures code that a
 // code begins with.
 #![tactic(auto)]
+
 ghost use Rattle.std.specs.Prelude.{◌≡◌};
 ghost use Rattle.contract.specs.Code.{in_order, verdict_of, read_code, future_of, terms_verdict, write_verdict, written};
 

@@ -1,5 +1,6 @@
 // The whole layout: futures code, M, date, type, category, style, strike.
 #![tactic(auto)]
+
 ghost use Rattle.std.specs.Prelude.{◌≡◌, ◌∷◌, ◌++◌, ◌+◌, ◌≤◌, length};
 ghost use Rattle.decimal.specs.Put.{Put};
 ghost use Rattle.contract.specs.Bounds.{date_length};

@@ -1,5 +1,6 @@
 // The row of a listing: L,code,R,last day, or L,code,R.
 #![tactic(auto)]
+
 ghost use Rattle.std.specs.Prelude.{◌≡◌};
 ghost use Rattle.calendar.specs.Days.{dates_of};
 ghost use Rattle.rows.specs.Row.{list_event, listing, dated_listing, list_row};

@@ -1,5 +1,6 @@
 // A number without its sign.
 #![tactic(auto)]
+
 ghost use Rattle.std.specs.Prelude.{◌≡◌, ◌^◌, ◌≤◌, nat_abs};
 
 pub fn magnitude(x: i64) -> u64

@@ -1,10 +1,9 @@
 -- Laws of places, for any number n of sections and any number m of accounts.
-use mathlib.Core.Path.{◌≡◌, refl, sym, ap, ◌∙◌}
-use mathlib.Core.Logic.{◌≢◌}
+use mathlib.Core.Path.{◌≡◌, sym, ap, ◌∙◌}
 use Prim.Native.Nat.{ℕ, zero, suc, ◌+◌, ◌*◌, ◌≤◌, ◌<◌}
 use native.Mathlib.Nat.{zero-mul, suc-mul, mul-le-mul_right, div-eq_of_lt-le, div-add-mod', div-lt_iff_lt-mul, add-mul, one-mul, mod-lt}
 use native.Mathlib.Omega.{arith}
-use lib.IntN.{ℤ, pos, ◌+ℤ◌}
+use lib.IntN.{ℤ}
 use Rattle.integer.specs.Sum.{sum_to}
 use Rattle.integer.proofs.Sum.{sum_to_zero, sum_to_suc, sum_join}
 use Rattle.places.specs.Sections.{place_among, account_among, section_among, sum_among}

@@ -1,5 +1,6 @@
 // Rows in a buffer that is refilled: where the next one ends, what is kept of an unfinished one, and moving that to the front.
 #![tactic(auto)]
+
 ghost use Rattle.std.specs.Prelude.{◌≡◌, ◌<◌, length, drop};
 ghost use Rattle.rows.specs.Cut.{starts_crlf, end_from, kept_from, moved_down};
 

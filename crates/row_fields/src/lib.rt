@@ -1,5 +1,6 @@
 // The fields of a row. Each stands behind a comma and is read with it; its reader answers the place after it, or that there is none.
 #![tactic(auto)]
+
 ghost use Rattle.std.specs.Prelude.{◌≡◌, drop};
 ghost use Rattle.rows.specs.Field.{short_at, number_at, held_in_byte, byte_at, section_at, sections_at, code_on, code_end};
 

@@ -1,5 +1,6 @@
 // The lines of a row that is an event. Each function puts its text at a place of the buffer and returns the place after it.
 #![tactic(auto)]
+
 ghost use Rattle.std.specs.Prelude.{◌+◌, ◌≤◌, length};
 ghost use Rattle.decimal.specs.Put.{Put};
 ghost use Rattle.report.specs.Lines as text;

@@ -1,5 +1,6 @@
 // The event that a row says.
 #![tactic(auto)]
+
 mod kind; // kind.rt: each kind of row
 
 ghost use Rattle.std.specs.Prelude.{◌≡◌};

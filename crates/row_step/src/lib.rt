@@ -11,6 +11,7 @@ ghost use Rattle.stream.specs.Parts.{RowPut, RowPassed};
 use book::state::{Book, Found, Period};
 use event_row::event_row;
 use rows::types::Row;
+use std::io::Write;
 use stream::types::Replay;
 
 // One row: its event is carried out or refused, and its lines are put behind what waits.
@@ -50,7 +51,8 @@ fn answer_row(
 
 // The row after row number `last`, where `at` bytes of output wait: it is answered, and where what waits then leaves no room for the
 // lines of one more row it is let go.
-pub fn pass_row(
+pub fn pass_row<W: Write>(
+    output: &mut W,
     calendar: &[u64],
     bytes: &[u8],
     out: &mut [u8],
@@ -63,7 +65,7 @@ pub fn pass_row(
     ensures { RowPassed (record { book = book; row = last; at = at; intact = intact }) out.old (row_of (dates_of calendar.now) bytes.now) result out.new }
 {
     let mut next = answer_row(calendar, bytes, out, book, last, at, intact);
-    let waiting = buffers::flushed(out, next.at, next.intact);
+    let waiting = buffers::flushed(output, out, next.at, next.intact);
     next.at = waiting.at;
     next.intact = waiting.intact;
     next

@@ -9,12 +9,19 @@ use buffers::{put_answer, up_to};
 use positions_apart::{put_back, taken_out};
 use row_step::pass_row;
 use rows::types::End;
+use std::io::Write;
 use stream::types::{Passed, Replay, SeriesRow};
 
 // The rows of a buffer that end in it. The book stays where it is for all of them: an event on one series changes that series of it,
 // and the blotter. The positions stand apart meanwhile, so that a trade, which changes nothing else of a series, does not copy the
 // rest of it. For any other row they are put back, and taken out of the book after it.
-pub fn whole_rows(calendar: &[u64], input: &[u8], out: &mut [u8], replay: Replay) -> Passed
+pub fn whole_rows<W: Write>(
+    output: &mut W,
+    calendar: &[u64],
+    input: &[u8],
+    out: &mut [u8],
+    replay: Replay,
+) -> Passed
     requires { Ready replay out.old }
     ensures { AllPassed (dates_of calendar.now) input.now replay out.old result out.new }
 {
@@ -38,7 +45,7 @@ pub fn whole_rows(calendar: &[u64], input: &[u8], out: &mut [u8], replay: Replay
             let End::At(end) = row_cut::row_end(input, from) else {
                 return up_to(book, row, at, intact, from);
             };
-            let next = pass_row(calendar, &input[from..end], out, book, row, at, intact);
+            let next = pass_row(output, calendar, &input[from..end], out, book, row, at, intact);
             let after = next.book;
             book = after;
             let every = book.series;
@@ -68,7 +75,7 @@ pub fn whole_rows(calendar: &[u64], input: &[u8], out: &mut [u8], replay: Replay
         book.trades = recording::counted(book.trades, effect);
         let answer = recording::answer(effect);
         row = std::num::wrapping_add_u64(row, 1);
-        let waiting = put_answer(out, at, row, answer, intact);
+        let waiting = put_answer(output, out, at, row, answer, intact);
         at = waiting.at;
         intact = waiting.intact;
         from = next;

@@ -1,5 +1,6 @@
 // Digits, numbers and single bytes in a slice of bytes.
 #![tactic(auto)]
+
 ghost use Rattle.std.specs.Prelude.{◌≡◌, ◌+◌, ◌*◌, min, get_or};
 ghost use Rattle.decimal.specs.Read.{digit_of, numeral_at, two_digits_at, capped};
 ghost use Rattle.decimal.specs.Scan.{byte_at};

@@ -1,5 +1,6 @@
 // The strike: units without leading zeros, and a point with one or two digits where the last is not 0.
 #![tactic(auto)]
+
 ghost use Rattle.std.specs.Prelude.{◌≡◌, ◌+◌, ◌*◌, ◌≤◌, ◌<◌, length};
 ghost use Rattle.decimal.specs.Put.{Put};
 ghost use Rattle.contract.specs.Strike.{hundredths_text, strike_text, fraction_at, hundredths_at, strike_at, strike_verdict};

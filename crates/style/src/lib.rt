@@ -1,5 +1,6 @@
 // The style: the blank before the strike, if any.
 #![tactic(auto)]
+
 ghost use Rattle.std.specs.Prelude.{◌≡◌, ◌+◌, ◌≤◌, length};
 ghost use Rattle.decimal.specs.Put.{Put};
 ghost use Rattle.contract.specs.Style.{style_text, style_at};

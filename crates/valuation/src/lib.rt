@@ -1,5 +1,6 @@
 // Rounding, the coefficient of a tick value, and the value of a price in kopecks.
 #![tactic(auto)]
+
 ghost use Rattle.std.specs.Prelude.{◌≡◌};
 ghost use Rattle.value.specs.Rounding.{nearest};
 ghost use Rattle.value.specs.Value.{coefficient_of, value_of};

@@ -12,8 +12,8 @@ use Rattle.margin.proofs.Combined.{difference_next}
 use Rattle.amounts.proofs.less.Goals as goal
 
 -- of whichever two amounts, their difference fits
-some-difference : {x y : ℤ} → Within most_in_a_series x → Within most_in_a_series y → SFits w64 (to_z w64 (of_z w64 x) -ℤ to_z w64 (of_z w64 y))
-some-difference h k = fits w64 (minus (param w64 h tt) (param w64 k tt)) tt
+some_difference : {x y : ℤ} → Within most_in_a_series x → Within most_in_a_series y → SFits w64 (to_z w64 (of_z w64 x) -ℤ to_z w64 (of_z w64 y))
+some_difference h k = fits w64 (minus (param w64 h tt) (param w64 k tt)) tt
 
 pub loop-k-init : goal.loop-k-init
 loop-k-init c = (omega arith, filled_start _ (pos 0) _ (search rules))
@@ -21,7 +21,7 @@ loop-k-init c = (omega arith, filled_start _ (pos 0) _ (search rules))
 pub overflow_sub-out : goal.overflow_sub-out
 overflow_sub-out c =
     let s = c.before.before.before.before in
-    search (some-difference, s.requires.0.each, s.requires.1.each)
+    search (some_difference, s.requires.0.each, s.requires.1.each)
 
 pub loop-k-preserved : goal.loop-k-preserved
 loop-k-preserved c =

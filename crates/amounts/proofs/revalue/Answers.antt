@@ -35,13 +35,13 @@ module _ (c : After-of_account-b) where
   start = turn.before.before
 
   -- the account's position and opening position, over its places
-  n-small : Within max_position c.of_account-n.result
-  n-small =
+  n_small : Within max_position c.of_account-n.result
+  n_small =
       subst (Within max_position) (sym c.of_account-n.ensures)
       (limited_of_account (at start.args.positions) (λ k. within_itself (at start.args.positions k)) start.requires.1.positions turn.loop-a.a)
 
-  b-small : Within max_position c.of_account-b.result
-  b-small =
+  b_small : Within max_position c.of_account-b.result
+  b_small =
       subst (Within max_position) (sym c.of_account-b.ensures)
       (limited_of_account (at start.args.opening) (λ k. within_itself (at start.args.opening k)) start.requires.1.opening turn.loop-a.a)
 
@@ -52,7 +52,7 @@ module _ (c : After-of_account-b) where
   cost = at turn.loop-a.amounts (cell start.args.series turn.loop-a.a)
 
   abbrev margin : Reads (max_gain + max_traded) (gain c.of_account-n.result c.of_account-b.result -ℤ cost)
-  margin = margin_read n-small start.requires.1.value b-small start.requires.1.evening (cost_small turn)
+  margin = margin_read n_small start.requires.1.value b_small start.requires.1.evening (cost_small turn)
 
   margin_is : gain c.of_account-n.result c.of_account-b.result -ℤ cost
       ≡ gain (of_account (at start.args.positions) turn.loop-a.a) (of_account (at start.args.opening) turn.loop-a.a) -ℤ cost
@@ -73,13 +73,13 @@ pub of_account-b-requires : goal.of_account-b-requires
 of_account-b-requires c = c.loop-a-test.true
 
 pub overflow_mul-gain : goal.overflow_mul-gain
-overflow_mul-gain c = worth_fits (n-small c) (start c).requires.1.value
+overflow_mul-gain c = worth_fits (n_small c) (start c).requires.1.value
 
 pub overflow_mul-gain-in-loop-a : goal.overflow_mul-gain-in-loop-a
-overflow_mul-gain-in-loop-a c = worth_fits (b-small c) (start c).requires.1.evening
+overflow_mul-gain-in-loop-a c = worth_fits (b_small c) (start c).requires.1.evening
 
 pub overflow_sub-gain : goal.overflow_sub-gain
-overflow_sub-gain c = gain_fits (n-small c) (start c).requires.1.value (b-small c) (start c).requires.1.evening
+overflow_sub-gain c = gain_fits (n_small c) (start c).requires.1.value (b_small c) (start c).requires.1.evening
 
 pub overflow_add-amounts : goal.overflow_add-amounts
 overflow_add-amounts c = omega (arith, inside (turn c))
@@ -91,7 +91,7 @@ pub bounds-amounts-first : goal.bounds-amounts-first
 bounds-amounts-first c = omega (arith, inside (turn c))
 
 pub overflow_sub-amounts : goal.overflow_sub-amounts
-overflow_sub-amounts c = margin_fits (n-small c.before) (start c.before).requires.1.value (b-small c.before) (start c.before).requires.1.evening (cost_small (turn c.before))
+overflow_sub-amounts c = margin_fits (n_small c.before) (start c.before).requires.1.value (b_small c.before) (start c.before).requires.1.evening (cost_small (turn c.before))
 
 pub overflow_add-first : goal.overflow_add-first
 overflow_add-first c = omega (arith, inside (turn c.before))

@@ -1,7 +1,6 @@
 -- `answers::is_session` meets its contract.
 use mathlib.Core.Path.{refl}
 use Rattle.report.specs.Report.{is_session}
-use borrow.Author.Rules.{rules}
 use Rattle.answers.proofs.is_session.Goals as goal
 
 pub returns-in-List : goal.returns-in-List

@@ -17,4 +17,4 @@ returns-in-Traded c = search rules
 
 pub returns-in-Refused : goal.returns-in-Refused
 unfolding named
-returns-in-Refused c = rw c.in-Refused.is c.Named-by.ensures
+returns-in-Refused c = rw c.in-Refused.is c.named_by.ensures

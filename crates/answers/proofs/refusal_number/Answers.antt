@@ -1,5 +1,4 @@
 -- `answers::refusal_number` meets its contract.
-use borrow.Author.Rules.{rules}
 use Rattle.series.specs.Refusals.{number}
 use Rattle.answers.proofs.refusal_number.Goals as goal
 

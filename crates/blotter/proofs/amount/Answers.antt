@@ -11,11 +11,11 @@ use Rattle.margin.proofs.Bounds.{option_value_bound}
 use Rattle.blotter.proofs.amount.Goals.{After-struct_known-1}
 use Rattle.blotter.proofs.amount.Goals as goal
 
-worth-small : (c : After-struct_known-1) → c.value-worth.result ≤ max_value
-worth-small c = rw c.value-worth.ensures (option_value_bound _ _ c.requires.coefficient_le_max_tick_value c.requires.trade_within.price)
+worth_small : (c : After-struct_known-1) → c.value-worth.result ≤ max_value
+worth_small c = rw c.value-worth.ensures (option_value_bound _ _ c.requires.coefficient_le_max_tick_value c.requires.trade_within.price)
 
 within : (c : After-struct_known-1) → c.args.trade.quantity * c.value-worth.result ≤ max_due
-within c = mul-le-mul c.requires.trade_within.quantity (worth-small c)
+within c = mul-le-mul c.requires.trade_within.quantity (worth_small c)
 
 pub overflow_mul-result : goal.overflow_mul-result
 overflow_mul-result c = omega (arith, within c)

@@ -8,4 +8,4 @@ use Rattle.buffers.proofs.without_rows.Goals as goal
 pub returns : goal.returns
 returns c =
     let n = c.no_calendar-next.ensures in
-    (omega (arith, n.1), put_behind n.0 (search rules), refl)
+    (omega (arith, n.upper_bound), put_behind n.put (search rules), refl)

@@ -1,9 +1,5 @@
 -- `calendar_day::day_of` meets its contract: what the search from i on finds is what the whole search finds.
-use borrow.Author.Rules.{rules}
-use Prim.Native.Nat.{◌-◌}
-use mathlib.Core.Path.{◌≡◌, refl}
-use lib.ListN.{length, drop}
-use Rattle.calendar.specs.Days.{dates_of, day_from, day_of}
+use mathlib.Core.Path.{refl}
 use Rattle.calendar.proofs.Steps.{day_none, day_found, day_passed}
 use Rattle.calendar_day.proofs.day_of.Goals as goal
 

@@ -1,9 +1,7 @@
-use borrow.Author.Rules.{rules}
 use Prim.Native.Nat.{◌-◌}
-use mathlib.Core.Path.{◌≡◌, refl}
+use mathlib.Core.Path.{◌≡◌}
 use lib.ListN.{length, drop}
 use Rattle.calendar.specs.Days.{dates_of, day_from, day_of}
-use Rattle.calendar.proofs.Steps.{day_none, day_found, day_passed}
 use Rattle.calendar_day.proofs.day_of.Given as goal
 
 abbrev pub invariant-loop-i : goal.invariant-loop-i

@@ -1,5 +1,4 @@
 -- `calendar_found::of_contents` meets its contract.
-use borrow.Author.Rules.{rules}
 use mathlib.Core.Path.{sym}
 use lib.Seq.{length-take-le}
 use Rattle.calendar.proofs.Files.{bytes_within, read_bytes, read_failed}

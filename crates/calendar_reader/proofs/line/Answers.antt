@@ -1,5 +1,4 @@
 -- `calendar_reader::line` meets its contract.
-use borrow.Author.Rules.{rules}
 use Rattle.calendar.specs.Text.{line_at}
 use Rattle.calendar.proofs.Steps.{fields}
 use Rattle.calendar_reader.proofs.line.Goals as goal

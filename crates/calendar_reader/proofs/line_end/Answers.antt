@@ -1,5 +1,4 @@
 -- `calendar_reader::line_end` meets its contract.
-use borrow.Author.Rules.{rules}
 use Rattle.choice.proofs.Chain.{hit, past, tests}
 use Rattle.calendar.specs.Text.{line_end}
 use Rattle.calendar.proofs.Steps.{fields}

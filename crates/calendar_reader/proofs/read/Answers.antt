@@ -1,10 +1,9 @@
 -- `calendar_reader::read` meets its contract: the dates so far, and what is read from here on, are what is read of all.
-use borrow.Author.Rules.{rules}
-use Prim.Native.Nat.{ℕ, ◌-◌, ◌≤◌}
+use Prim.Native.Nat.{ℕ, ◌≤◌}
 use native.Mathlib.Omega.{arith}
 use lib.ListN.{length-replicate}
 use Rattle.calendar.specs.Days.{max_dates}
-use Rattle.calendar.proofs.Steps.{Reached, reached_start, reached_end, reached_full, reached_undated, reached_falling, reached_next, line_digits}
+use Rattle.calendar.proofs.Steps.{reached_start, reached_end, reached_full, reached_undated, reached_falling, reached_next, line_digits}
 use Rattle.calendar_reader.proofs.read.Goals as goal
 
 pub loop-at-init : goal.loop-at-init
@@ -22,7 +21,7 @@ number_of-number-requires c = search line_digits depth 12
 pub returns-then-number-before : goal.returns-then-number-before
 returns-then-number-before c =
     let l = c.loop-at in
-    let f : c.before.number_of_lem.result ≤ l.before = omega arith in
+    let f : c.number_of-number.result ≤ l.before = omega arith in
     search (reached_falling, f) depth 12
 
 pub loop-at-preserved : goal.loop-at-preserved

@@ -1,9 +1,6 @@
-use borrow.Author.Rules.{rules}
-use Prim.Native.Nat.{ℕ, ◌-◌, ◌≤◌}
-use native.Mathlib.Omega.{arith}
-use lib.ListN.{length-replicate}
+use Prim.Native.Nat.{◌-◌}
 use Rattle.calendar.specs.Days.{max_dates}
-use Rattle.calendar.proofs.Steps.{Reached, reached_start, reached_end, reached_full, reached_undated, reached_falling, reached_next, line_digits}
+use Rattle.calendar.proofs.Steps.{Reached}
 use Rattle.calendar_reader.proofs.read.Given as goal
 
 abbrev pub invariant-loop-at : goal.invariant-loop-at

@@ -10,8 +10,8 @@ use borrow.Author.Rules.{rules}
 use Rattle.clearing.proofs.empty.Goals.{After-new_series-blank}
 use Rattle.clearing.proofs.empty.Goals as goal
 
-is-empty : (c : After-new_series-blank) → with_all_series empty_book (replicate series_room c.new_series-blank.result) ≡ empty_book
-is-empty c = λ i. with_all_series empty_book (replicate series_room (c.new_series-blank.ensures i))
+is_empty : (c : After-new_series-blank) → with_all_series empty_book (replicate series_room c.new_series-blank.result) ≡ empty_book
+is_empty c = λ i. with_all_series empty_book (replicate series_room (c.new_series-blank.ensures i))
 
 pub returns : goal.returns
-returns c = (is-empty c, subst (λ (b : Book). Good b) (sym (is-empty c)) good_empty)
+returns c = (is_empty c, subst (λ (b : Book). Good b) (sym (is_empty c)) good_empty)

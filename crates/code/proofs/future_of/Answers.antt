@@ -1,5 +1,4 @@
 -- `code::future_of` meets its contract.
-use borrow.Author.Rules.{rules}
 use Rattle.contract.proofs.WholeLayout.{answers, part_length}
 use Rattle.contract.specs.Code.{future_of}
 use Rattle.code.proofs.future_of.Goals as goal

@@ -1,5 +1,4 @@
 -- `code::in_order` meets its contract.
-use borrow.Author.Rules.{rules}
 use Rattle.contract.proofs.Steps.{first_accepts, first_refuses}
 use Rattle.code.proofs.in_order.Goals as goal
 

@@ -1,5 +1,4 @@
 -- `code::read` meets its contract.
-use borrow.Author.Rules.{rules}
 use Rattle.contract.proofs.WholeLayout.{answers}
 use Rattle.contract.specs.Code.{read_code}
 use Rattle.code.proofs.read.Goals as goal

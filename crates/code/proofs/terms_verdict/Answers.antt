@@ -1,5 +1,4 @@
 -- `code::terms_verdict` meets its contract.
-use borrow.Author.Rules.{rules}
 use Rattle.choice.specs.Choice.{choose}
 use Rattle.choice.proofs.Chain.{tests}
 use Rattle.contract.specs.Code.{terms_verdict}

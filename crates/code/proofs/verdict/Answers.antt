@@ -1,5 +1,4 @@
 -- `code::verdict` meets its contract.
-use borrow.Author.Rules.{rules}
 use Rattle.contract.proofs.Steps.{verdict_of_lem}
 use Rattle.code.proofs.verdict.Goals as goal
 

@@ -1,5 +1,4 @@
 -- `code::write` meets its contract.
-use borrow.Author.Rules.{rules}
 use Rattle.contract.proofs.Writing.{write_refused, write_room, write_digits, write_done}
 use Rattle.code.proofs.write.Goals as goal
 

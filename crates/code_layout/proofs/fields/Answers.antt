@@ -1,7 +1,12 @@
 -- `code_layout::fields` meets its contract.
-use borrow.Author.Rules.{rules}
 use Rattle.contract.proofs.Steps.{fields}
 use Rattle.contract.specs.Code.{layout_at}
+use mathlib.Core.Path.{refl}
+use Rattle.contract.proofs.Scanning.{scanned_next}
+use Rattle.contract.proofs.DateField.{dated}
+use Rattle.contract.proofs.KindField.{kinded}
+use Rattle.contract.proofs.StyleField.{styled}
+use Rattle.contract.proofs.StrikeField.{struck, unstruck}
 use Rattle.code_layout.proofs.fields.Goals as goal
 
 pub returns-in_default : goal.returns-in_default
@@ -24,11 +29,23 @@ pub returns-in_default-blank : goal.returns-in_default-blank
 unfolding layout_at
 returns-in_default-blank c = search fields depth 14
 
--- here and below `search` does not look as far back as the first field: its facts are listed
+-- here and below `search` does not look as far back as the first field: its steps are written out
 pub returns-in_default-last : goal.returns-in_default-last
 unfolding layout_at
-returns-in_default-last c = search (fields, c.leading.ensures) depth 14
+returns-in_default-last c =
+    scanned_next _ _ _ _ _ _ c.leading.ensures c.in-Next.is
+    (scanned_next _ _ _ _ _ _ c.expect.ensures c.in-Next-expect.is
+    (dated _ _ _ _ _ _ _ c.digits.ensures c.in-Dated.is
+    (kinded _ _ _ _ _ _ _ _ c.letters.ensures c.in-Kinded.is
+    (styled _ _ _ _ _ _ _ c.blank.ensures c.in-Styled.is
+    (unstruck _ _ _ _ _ c.last.ensures c.in_default-last.is refl)))))
 
 pub returns : goal.returns
 unfolding layout_at
-returns c = search (fields, c.leading.ensures, c.future-1.given) depth 14
+returns c =
+    scanned_next _ _ _ _ _ _ c.leading.ensures c.in-Next.is
+    (scanned_next _ _ _ _ _ _ c.expect.ensures c.in-Next-expect.is
+    (dated _ _ _ _ _ _ _ c.digits.ensures c.in-Dated.is
+    (kinded _ _ _ _ _ _ _ _ c.letters.ensures c.in-Kinded.is
+    (styled _ _ _ _ _ _ _ c.blank.ensures c.in-Styled.is
+    (struck _ _ _ _ _ _ c.last.ensures c.in-Strike.is refl)))))

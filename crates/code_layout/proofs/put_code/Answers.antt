@@ -1,6 +1,5 @@
 -- `code_layout::put_code` meets its contract.
 use native.Mathlib.Omega.{arith}
-use borrow.Author.Rules.{rules}
 use Rattle.contract.specs.Style.{style_text}
 use Rattle.contract.proofs.Writing.{code_length, head_length, put_all}
 use Rattle.code_layout.proofs.put_code.Goals as goal
@@ -13,11 +12,11 @@ put_letters-c-requires c = omega (arith, code_length c.args.future.now c.args.te
 
 pub put_blank-d-requires : goal.put_blank-d-requires
 unfolding style_text
-put_blank-d-requires c = omega (arith, code_length c.args.future.now c.args.terms, head_length c.args.future.now c.args.terms, c.put_head-b.ensures.place, c.put_head-b.auto.0)
+put_blank-d-requires c = omega (arith, code_length c.args.future.now c.args.terms, head_length c.args.future.now c.args.terms, c.put_head-b.ensures.place, c.put_head-b.auto.out)
 
 pub put_text-requires : goal.put_text-requires
 unfolding style_text
-put_text-requires c = omega (arith, code_length c.args.future.now c.args.terms, head_length c.args.future.now c.args.terms, c.put_head-b.ensures.place, c.put_head-b.auto.0, c.put_letters-c.ensures.place, c.put_letters-c.auto.0)
+put_text-requires c = omega (arith, code_length c.args.future.now c.args.terms, head_length c.args.future.now c.args.terms, c.put_head-b.ensures.place, c.put_head-b.auto.out, c.put_letters-c.ensures.place, c.put_letters-c.auto.out)
 
 pub returns : goal.returns
 returns c = search put_all

@@ -1,5 +1,4 @@
 -- `code_layout::put_head` meets its contract.
-use borrow.Author.Rules.{rules}
 use Rattle.decimal.proofs.Putting.{puts}
 use Rattle.code_layout.proofs.put_head.Goals as goal
 

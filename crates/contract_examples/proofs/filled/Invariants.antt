@@ -1,6 +1,4 @@
 use Prim.Native.Nat.{◌≤◌, ◌-◌}
-use mathlib.Core.Logic.{⊎_elim}
-use native.Mathlib.Omega.{arith}
 use Rattle.contract.specs.Bounds.{max_code}
 use Rattle.contract_examples.proofs.filled.Given as goal
 

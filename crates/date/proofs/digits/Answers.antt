@@ -1,5 +1,4 @@
 -- `date::digits` meets its contract.
-use borrow.Author.Rules.{rules}
 use Rattle.contract.proofs.Steps.{fields}
 use Rattle.contract.specs.Date.{date_at}
 use Rattle.date.proofs.digits.Goals as goal

@@ -1,5 +1,4 @@
 -- `date::in_calendar` meets its contract.
-use borrow.Author.Rules.{rules}
 use Rattle.contract.proofs.DateField.{day_zero, day_within}
 use Rattle.date.proofs.in_calendar.Goals as goal
 

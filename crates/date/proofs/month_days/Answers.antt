@@ -1,5 +1,4 @@
 -- `date::month_days` meets its contract.
-use borrow.Author.Rules.{rules}
 use Rattle.contract.proofs.DateField as field
 use Rattle.date.proofs.month_days.Goals as goal
 

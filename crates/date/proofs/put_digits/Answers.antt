@@ -1,5 +1,4 @@
 -- `date::put_digits` meets its contract.
-use borrow.Author.Rules.{rules}
 use Rattle.decimal.proofs.Putting.{puts}
 use Rattle.date.proofs.put_digits.Goals as goal
 

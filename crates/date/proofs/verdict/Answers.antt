@@ -1,5 +1,4 @@
 -- `date::verdict` meets its contract.
-use borrow.Author.Rules.{rules}
 use Rattle.contract.proofs.DateField.{date_accepted, date_refused}
 use Rattle.date.proofs.verdict.Goals as goal
 

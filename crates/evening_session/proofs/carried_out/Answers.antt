@@ -28,7 +28,7 @@ use Rattle.session_margin.proofs.EachSeries.{Passed, passed_none, passed_room, p
 use borrow.Author.Rules.{rules}
 use Rattle.evening_session.proofs.carried_out.Goals.{After-in_all-money, After-less-rest, After-loop-i, After-pay-paid, In-loop-i, Start}
 use Rattle.evening_session.proofs.carried_out.Goals as goal
-use Rattle.evening_session.proofs.carried_out.Invariants.{settledOn}
+use Rattle.evening_session.proofs.carried_out.Invariants.{settled_on}
 
 -- ---- a turn of the loop
 module _ (c : In-loop-i) where
@@ -39,7 +39,7 @@ module _ (c : In-loop-i) where
   first = start.args.book
 
   room : c.loop-i.i < series_room
-  room = passed_room first start.requires.0 (settledOn first) c.loop-i-test.true
+  room = passed_room first start.requires.0 (settled_on first) c.loop-i-test.true
 
 -- ---- once all series are passed
 module _ (c : After-loop-i) where
@@ -51,11 +51,11 @@ module _ (c : After-loop-i) where
 
   margin : c.loop-i.margin ≡ by_series (paid_for original (evening_margin_in original))
   margin =
-      passed_margin original begun.requires.0 (settledOn original) c.loop-i.invariant (omega (arith, c.loop-i-test.false))
-      ∙ evening_is original begun.requires.0 (changed original (settledOn original)) refl
+      passed_margin original begun.requires.0 (settled_on original) c.loop-i.invariant (omega (arith, c.loop-i-test.false))
+      ∙ evening_is original begun.requires.0 (changed original (settled_on original)) refl
 
-  series : c.loop-i.book ≡ with_all_series original (changed original (settledOn original))
-  series = passed_series original begun.requires.0 (settledOn original) c.loop-i.invariant (omega (arith, c.loop-i-test.false))
+  series : c.loop-i.book ≡ with_all_series original (changed original (settled_on original))
+  series = passed_series original begun.requires.0 (settled_on original) c.loop-i.invariant (omega (arith, c.loop-i-test.false))
 
 pub traded-margin-requires : goal.traded-margin-requires
 traded-margin-requires c =
@@ -67,7 +67,7 @@ pub loop-i-init : goal.loop-i-init
 loop-i-init c =
     let s = c.before.before.before in
     let b = s.args.book in
-    passed_none b s.requires.0 (settledOn b) _
+    passed_none b s.requires.0 (settled_on b) _
     (c.traded-margin.ensures ∙ ap (λ (l : List ℕ). by_series (λ i a. trades_cost b.blotter b.trades i (get_or l i 0) a)) c.coefficients.ensures)
 
 pub offset_bounds-book-i : goal.offset_bounds-book-i
@@ -80,7 +80,7 @@ pub after_evening-next-requires : goal.after_evening-next-requires
 after_evening-next-requires c =
     let l = c.before in
     let g = (start l).requires in
-    (rw (passed_here (first l) g.0 (settledOn (first l)) l.loop-i.invariant l.loop-i-test.true) (g.0.series l.loop-i.i (room l)), g.1)
+    (rw (passed_here (first l) g.0 (settled_on (first l)) l.loop-i.invariant l.loop-i-test.true) (g.0.series l.loop-i.i (room l)), g.1)
 
 pub revalue_series-requires : goal.revalue_series-requires
 revalue_series-requires c =
@@ -88,10 +88,10 @@ revalue_series-requires c =
     let g = (start l).requires.0 in
     let i = l.loop-i.i in
     let h = l.loop-i.invariant in
-    let good : GoodSeries (first l).day (get_or l.loop-i.book.series i no_series) = rw (passed_here (first l) g (settledOn (first l)) h l.loop-i-test.true) (g.series i (room l)) in
-    let left = passed_left (first l) g (settledOn (first l)) h l.loop-i-test.true _ c.after_evening-next.ensures in
+    let good : GoodSeries (first l).day (get_or l.loop-i.book.series i no_series) = rw (passed_here (first l) g (settled_on (first l)) h l.loop-i-test.true) (g.series i (room l)) in
+    let left = passed_left (first l) g (settled_on (first l)) h l.loop-i-test.true _ c.after_evening-next.ensures in
     let limited : Limited max_position c.after_evening-next.result.positions = rw left (settled_limited (first l) g _ refl i (room l)) in
-    (passed_costs (first l) g (settledOn (first l)) h l.loop-i-test.true, good, search (limited, good.limited))
+    (passed_costs (first l) g (settled_on (first l)) h l.loop-i-test.true, good, search (limited, good.limited))
 
 pub offset_bounds-book-i-in-loop-i : goal.offset_bounds-book-i-in-loop-i
 offset_bounds-book-i-in-loop-i c = omega (arith, room (goal.at.offset_bounds-book-i-in-loop-i c).In-loop-i)
@@ -102,7 +102,7 @@ bounds-book-i-in-loop-i c = room (goal.at.bounds-book-i-in-loop-i c).In-loop-i
 pub loop-i-preserved : goal.loop-i-preserved
 loop-i-preserved c =
     let l = (goal.at.loop-i-preserved c).In-loop-i in
-    passed_next (first l) (start l).requires.0 (settledOn (first l)) l.loop-i.invariant l.loop-i-test.true _ c.after_evening-next.ensures _ c.revalue_series.ensures
+    passed_next (first l) (start l).requires.0 (settled_on (first l)) l.loop-i.invariant l.loop-i-test.true _ c.after_evening-next.ensures _ c.revalue_series.ensures
 
 pub less-rest-requires : goal.less-rest-requires
 less-rest-requires c =

@@ -28,11 +28,11 @@ use borrow.Author.Rules.{rules}
 use Rattle.evening_session.proofs.carried_out.Given as goal
 
 -- a series after the evening of a book's day
-abbrev pub settledOn : Book → Series → Series
-settledOn b s = settled s b.day
+abbrev pub settled_on : Book → Series → Series
+settled_on b s = settled s b.day
 
 abbrev pub invariant-loop-i : goal.invariant-loop-i
-invariant-loop-i l = Passed l.initial.book (settledOn l.initial.book) l.i l.book l.margin
+invariant-loop-i l = Passed l.initial.book (settled_on l.initial.book) l.i l.book l.margin
 
 abbrev pub decreases-loop-i : goal.decreases-loop-i
 decreases-loop-i l = l.listed - l.i

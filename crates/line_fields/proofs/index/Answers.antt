@@ -9,5 +9,4 @@ digits-requires c = omega (arith, byte_length c.args.i (search rules))
 
 pub returns : goal.returns
 returns c =
-    let call = c.before.before in
-    (call.digits.ensures, omega (arith, call.digits.ensures.place, byte_length call.args.i (search rules)))
+    record { put = c.digits.ensures; upper_bound = omega (arith, byte_length c.args.i (search rules)) }

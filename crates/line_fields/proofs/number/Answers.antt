@@ -9,5 +9,4 @@ digits-requires c = omega (arith, row_length c.args.n (search rules))
 
 pub returns : goal.returns
 returns c =
-    let call = c.before.before in
-    (call.digits.ensures, omega (arith, call.digits.ensures.place, row_length call.args.n (search rules)))
+    record { put = c.digits.ensures; upper_bound = omega (arith, row_length c.args.n (search rules)) }

@@ -1,7 +1,6 @@
 -- `lines::futures` meets its contract.
 use native.Mathlib.Omega.{arith}
 use mir.Syntax.{w64}
-use borrow.Author.Rules.{rules}
 use Rattle.integer.proofs.Machine.{any}
 use Rattle.report.specs.Lines.{count_text}
 use Rattle.report.proofs.OneLine.{futures_put, no_futures_put}
@@ -11,20 +10,13 @@ use Rattle.lines.proofs.futures.Goals as goal
 
 pub returns-then-arisen-eq0 : goal.returns-then-arisen-eq0
 returns-then-arisen-eq0 c =
-    let start = c.before.before in
-    let z = start.args.arisen in
-    (no_futures_put _ _ _ _ _ z (zero_test z start.ranges.arisen c.if-arisen-eq0.true), omega arith)
+    let z = c.args.arisen in
+    record { put = no_futures_put _ _ _ _ _ z (zero_test z c.ranges.arisen c.if-arisen-eq0.true); upper_bound = omega arith }
 
 pub returns : goal.returns
 returns c =
-    let end = c.end.ensures in
-    let count = c.before.before.before.before.before.before in
-    let account = count.before.before.before.before in
-    let series = account.before.before.before.before in
-    let begin = series.before.before.before.before in
-    let start = begin.before.before.before.before in
-    let z = start.args.arisen in (
-      futures_put _ _ _ z (other_test z begin.if-arisen-eq0.false) begin.begin-series.ensures.0 series.index-comma.ensures.0
-          account.account-count.ensures.0 (text_of count_text (any w64 start.ranges.arisen).is count.count-next.ensures.0) end,
-      omega (arith, begin.begin-series.ensures.1, series.index-comma.ensures.1, account.account-count.ensures.1, count.count-next.ensures.1, end.place),
-    )
+    let z = c.args.arisen in record {
+      put = futures_put _ _ _ z (other_test z c.if-arisen-eq0.false) c.begin-series.ensures.put c.index-comma.ensures.put
+          c.account-count.ensures.put (text_of count_text (any w64 c.ranges.arisen).is c.count-next.ensures.put) c.end.ensures;
+      upper_bound = omega arith;
+    }

@@ -1,5 +1,4 @@
 -- `list_row::dated_listing` meets its contract.
-use borrow.Author.Rules.{rules}
 use Rattle.rows.proofs.Readers.{code_terms, code_refused, day_on, day_none}
 use Rattle.rows.specs.Row.{dated_listing}
 use Rattle.list_row.proofs.dated_listing.Goals as goal

@@ -1,5 +1,4 @@
 -- `list_row::listing` meets its contract.
-use borrow.Author.Rules.{rules}
 use Rattle.rows.proofs.Readers.{code_terms, code_refused}
 use Rattle.rows.specs.Row.{listing}
 use Rattle.list_row.proofs.listing.Goals as goal

@@ -25,21 +25,21 @@ module _ (c : After-struct_known-1) where
       record { raw = g.raw; is = g.is ∙ +ℤ_idl (neg_ℤ (pos start.args.deal.quantity)); bound = within_neg bought.bound }
 
 -- what the two calls gave
-buyer-passes : (c : After-passes_limit)
+buyer_passes : (c : After-passes_limit)
     → c.passes_limit.result
     ≡ passes_limit (gross_after (start c.before).args.positions.now (start c.before).args.deal.buyer (start c.before).args.deal.buyer_section (pos (start c.before).args.deal.quantity))
-buyer-passes c = rw (bought c.before).is at c.passes_limit.ensures
+buyer_passes c = rw (bought c.before).is at c.passes_limit.ensures
 
-seller-passes : (c : After-passes_limit-2)
+seller_passes : (c : After-passes_limit-2)
     → c.passes_limit-2.result
     ≡ passes_limit (gross_after (start c.before.before.before).args.positions.now (start c.before.before.before).args.deal.seller (start c.before.before.before).args.deal.seller_section (neg_ℤ (pos (start c.before.before.before).args.deal.quantity)))
-seller-passes c = rw (local w64 (sold c.before.before.before) tt).is at c.passes_limit-2.ensures
+seller_passes c = rw (local w64 (sold c.before.before.before) tt).is at c.passes_limit-2.ensures
 
 pub passes_limit-requires : goal.passes_limit-requires
 passes_limit-requires c = ((start c).requires.0, (start c).requires.2, subst (Within max_quantity) (sym (bought c).is) (bought c).bound)
 
 pub returns-then-passes_limit : goal.returns-then-passes_limit
-returns-then-passes_limit c = hit _ (sym (buyer-passes c.before) ∙ c.if-passes_limit.true) refl
+returns-then-passes_limit c = hit _ (sym (buyer_passes c.before) ∙ c.if-passes_limit.true) refl
 
 pub overflow_sub-quantity : goal.overflow_sub-quantity
 overflow_sub-quantity c = fits w64 (sold c.before.before) tt
@@ -51,10 +51,10 @@ passes_limit-requires-2 c =
 
 pub returns-then-passes_limit-2 : goal.returns-then-passes_limit-2
 returns-then-passes_limit-2 c =
-    past _ (sym (buyer-passes c.before.before.before) ∙ c.if-passes_limit.false)
-    (hit _ (sym (seller-passes c.before) ∙ c.if-passes_limit-2.true) refl)
+    past _ (sym (buyer_passes c.before.before.before) ∙ c.if-passes_limit.false)
+    (hit _ (sym (seller_passes c.before) ∙ c.if-passes_limit-2.true) refl)
 
 pub returns : goal.returns
 returns c =
-    past _ (sym (buyer-passes c.before.before.before) ∙ c.if-passes_limit.false)
-    (past _ (sym (seller-passes c.before) ∙ c.if-passes_limit-2.false) refl)
+    past _ (sym (buyer_passes c.before.before.before) ∙ c.if-passes_limit.false)
+    (past _ (sym (seller_passes c.before) ∙ c.if-passes_limit-2.false) refl)

@@ -1,9 +1,6 @@
 -- `put::bytes` meets its contract.
-use Prim.Native.Nat.{◌-◌, ◌≤◌}
-use mathlib.Core.Path.{◌≡◌, refl}
+use mathlib.Core.Path.{refl}
 use native.Mathlib.Omega.{arith}
-use lib.ListN.{length, take}
-use lib.Seq.{sets}
 use borrow.Author.Rules.{rules}
 use Rattle.decimal.proofs.Putting as putting
 use Rattle.put.proofs.bytes.Goals as goal

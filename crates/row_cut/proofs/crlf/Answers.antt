@@ -1,5 +1,4 @@
 -- `row_cut::crlf` meets its contract.
-use borrow.Author.Rules.{rules}
 use Rattle.rows.proofs.Ends.{crlf_next, crlf_last, crlf_none}
 use Rattle.row_cut.proofs.crlf.Goals as goal
 

@@ -1,9 +1,8 @@
 -- `row_cut::move_down` meets its contract. The loop's invariant: the first i bytes from the place on are moved.
-use Prim.Native.Nat.{◌+◌, ◌-◌, ◌≤◌}
-use mathlib.Core.Path.{◌≡◌, refl}
+use mathlib.Core.Path.{refl}
 use native.Mathlib.Omega.{arith}
-use lib.ListN.{length, length-set}
-use Rattle.row_cut.proofs.Buffer.{partly, moved_more, moved_all}
+use lib.ListN.{length-set}
+use Rattle.row_cut.proofs.Buffer.{moved_more, moved_all}
 use Rattle.row_cut.proofs.move_down.Goals as goal
 
 pub loop-j-init : goal.loop-j-init

@@ -1,9 +1,6 @@
 -- `row_cut::row_end` meets its contract.
-use Prim.Native.Nat.{◌-◌}
-use mathlib.Core.Path.{◌≡◌, refl}
+use mathlib.Core.Path.{refl}
 use native.Mathlib.Omega.{arith}
-use lib.ListN.{length, drop}
-use Rattle.rows.specs.Cut.{end_from, end_on}
 use Rattle.rows.proofs.Ends.{end_here, end_later, end_never}
 use Rattle.row_cut.proofs.row_end.Goals as goal
 

@@ -1,9 +1,7 @@
 use Prim.Native.Nat.{◌-◌}
-use mathlib.Core.Path.{◌≡◌, refl}
-use native.Mathlib.Omega.{arith}
+use mathlib.Core.Path.{◌≡◌}
 use lib.ListN.{length, drop}
 use Rattle.rows.specs.Cut.{end_from, end_on}
-use Rattle.rows.proofs.Ends.{end_here, end_later, end_never}
 use Rattle.row_cut.proofs.row_end.Given as goal
 
 abbrev pub invariant-loop-i : goal.invariant-loop-i

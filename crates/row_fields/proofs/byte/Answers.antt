@@ -1,5 +1,4 @@
 -- `row_fields::byte` meets its contract.
-use borrow.Author.Rules.{rules}
 use Rattle.decimal.proofs.Reading.{numeral_value, numeral_none}
 use Rattle.rows.proofs.Fields.{byte_held}
 use Rattle.rows.specs.Field.{byte_at}

@@ -1,9 +1,6 @@
 -- `row_fields::code_from` meets its contract.
-use Prim.Native.Nat.{◌-◌}
-use mathlib.Core.Path.{◌≡◌, refl}
+use mathlib.Core.Path.{refl}
 use native.Mathlib.Omega.{arith}
-use lib.ListN.{length, drop}
-use Rattle.rows.specs.Field.{code_on}
 use Rattle.rows.proofs.Fields as field
 use Rattle.row_fields.proofs.code_from.Goals as goal
 

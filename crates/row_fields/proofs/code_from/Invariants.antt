@@ -1,9 +1,7 @@
 use Prim.Native.Nat.{◌-◌}
-use mathlib.Core.Path.{◌≡◌, refl}
-use native.Mathlib.Omega.{arith}
+use mathlib.Core.Path.{◌≡◌}
 use lib.ListN.{length, drop}
 use Rattle.rows.specs.Field.{code_on}
-use Rattle.rows.proofs.Fields as field
 use Rattle.row_fields.proofs.code_from.Given as goal
 
 abbrev pub invariant-loop-i : goal.invariant-loop-i

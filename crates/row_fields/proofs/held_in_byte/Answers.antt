@@ -1,6 +1,5 @@
 -- `row_fields::held_in_byte` meets its contract.
 use native.Mathlib.Omega.{arith}
-use borrow.Author.Rules.{rules}
 use Rattle.rows.specs.Field.{held_in_byte}
 use Rattle.row_fields.proofs.held_in_byte.Goals as goal
 

@@ -1,5 +1,4 @@
 -- `row_fields::number` meets its contract.
-use borrow.Author.Rules.{rules}
 use Rattle.rows.proofs.Fields as field
 use Rattle.row_fields.proofs.number.Goals as goal
 

@@ -1,5 +1,4 @@
 -- `row_fields::section` meets its contract.
-use borrow.Author.Rules.{rules}
 use Rattle.rows.proofs.Fields as field
 use Rattle.row_fields.proofs.section.Goals as goal
 

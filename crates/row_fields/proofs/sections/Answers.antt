@@ -1,5 +1,4 @@
 -- `row_fields::sections` meets its contract.
-use borrow.Author.Rules.{rules}
 use Rattle.decimal.proofs.Reading.{numeral_value, numeral_none}
 use Rattle.rows.proofs.Fields as field
 use Rattle.row_fields.proofs.sections.Goals as goal

@@ -1,5 +1,4 @@
 -- `row_fields::short` meets its contract.
-use borrow.Author.Rules.{rules}
 use Rattle.rows.proofs.Fields as field
 use Rattle.row_fields.proofs.short.Goals as goal
 

@@ -1,5 +1,4 @@
 -- `row_lines::answered` meets its contract.
-use borrow.Author.Rules.{rules}
 use Rattle.book.specs.Answers as rule
 use Rattle.book.specs.declared.state.Found.{Found}
 use Rattle.book.specs.declared.state.Period.{Period}
@@ -9,14 +8,10 @@ use Rattle.row_lines.proofs.answered.Goals as goal
 
 pub returns : goal.returns
 returns c =
-    let call = c.before.before in
-    let number = call.before.before in
-    let period = number.before in
-    let named = period.before in
-    let row = named.args.row in
-    let answer = named.args.answer in (
-      text_of (answer_line row _ _) number.answer_number-number.ensures
-          (text_of (λ (p : Period). answer_line row (rule.named answer) p number.answer_number-number.result) period.period-told.ensures
-          (text_of (λ (f : Found). answer_line row f period.period-told.result number.answer_number-number.result) named.named-found.ensures call.answer.ensures.0)),
-      call.answer.ensures.1,
-    )
+    let row = c.args.row in
+    let answer = c.args.answer in record {
+      put = text_of (answer_line row _ _) c.answer_number-number.ensures
+          (text_of (λ (p : Period). answer_line row (rule.named answer) p c.answer_number-number.result) c.period-told.ensures
+          (text_of (λ (f : Found). answer_line row f c.period-told.result c.answer_number-number.result) c.named-found.ensures c.answer.ensures.put));
+      upper_bound = c.answer.ensures.upper_bound;
+    }

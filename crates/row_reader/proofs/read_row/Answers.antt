@@ -1,5 +1,4 @@
 -- `row_reader::read_row` meets its contract.
-use borrow.Author.Rules.{rules}
 use Rattle.rows.proofs.Readers.{row_long, row_empty, row_letter, row_other}
 use Rattle.rows.specs.Row.{by_letter}
 use Rattle.choice.specs.Choice.{choose}

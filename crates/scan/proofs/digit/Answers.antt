@@ -1,5 +1,4 @@
 -- `scan::digit` meets its contract.
-use borrow.Author.Rules.{rules}
 use Rattle.choice.specs.Choice.{choose}
 use Rattle.choice.proofs.Chain.{tests}
 use Rattle.decimal.specs.Read.{digit_of}

@@ -1,6 +1,5 @@
 -- `scan::digit_at` meets its contract.
 use mathlib.Core.Path.{sym}
-use borrow.Author.Rules.{rules}
 use Rattle.decimal.proofs.Digits.{no_digit}
 use Rattle.scan.proofs.digit_at.Goals as goal
 

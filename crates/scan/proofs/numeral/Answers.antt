@@ -1,10 +1,5 @@
 -- `scan::numeral` meets its contract.
-use Prim.Native.Nat.{◌-◌, ◌≤◌}
-use mathlib.Core.Path.{◌≡◌}
 use native.Mathlib.Omega.{arith}
-use lib.ListN.{length, drop}
-use borrow.Author.Rules.{rules}
-use Rattle.decimal.specs.Read.{numeral_at, digits_on, capped}
 use Rattle.decimal.proofs.Reading as step
 use Rattle.decimal.proofs.Digits.{digit_next}
 use Rattle.scan.proofs.numeral.Goals as goal

@@ -1,11 +1,7 @@
 use Prim.Native.Nat.{◌-◌, ◌≤◌}
 use mathlib.Core.Path.{◌≡◌}
-use native.Mathlib.Omega.{arith}
 use lib.ListN.{length, drop}
-use borrow.Author.Rules.{rules}
 use Rattle.decimal.specs.Read.{numeral_at, digits_on, capped}
-use Rattle.decimal.proofs.Reading as step
-use Rattle.decimal.proofs.Digits.{digit_next}
 use Rattle.scan.proofs.numeral.Given as goal
 
 abbrev pub invariant-loop-i : goal.invariant-loop-i

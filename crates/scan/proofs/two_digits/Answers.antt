@@ -1,5 +1,4 @@
 -- `scan::two_digits` meets its contract.
-use borrow.Author.Rules.{rules}
 use Rattle.decimal.proofs.Reading as step
 use Rattle.scan.proofs.two_digits.Goals as goal
 

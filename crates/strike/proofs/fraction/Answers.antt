@@ -1,5 +1,4 @@
 -- `strike::fraction` meets its contract.
-use borrow.Author.Rules.{rules}
 use Rattle.contract.specs.Strike.{fraction_at}
 use Rattle.decimal.proofs.Reading.{digit_room}
 use Rattle.choice.specs.Choice.{choose}

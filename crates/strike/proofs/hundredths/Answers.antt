@@ -1,5 +1,4 @@
 -- `strike::hundredths` meets its contract.
-use borrow.Author.Rules.{rules}
 use Rattle.choice.specs.Choice.{choose}
 use Rattle.choice.proofs.Chain.{tests}
 use Rattle.contract.proofs.Steps.{fields}

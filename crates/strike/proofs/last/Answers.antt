@@ -1,5 +1,4 @@
 -- `strike::last` meets its contract.
-use borrow.Author.Rules.{rules}
 use Rattle.contract.proofs.StrikeField as field
 use Rattle.strike.proofs.last.Goals as goal
 

@@ -1,6 +1,5 @@
 -- `strike::put_hundredths` meets its contract.
 use native.Mathlib.Omega.{arith}
-use borrow.Author.Rules.{rules}
 use Rattle.contract.proofs.StrikeField as field
 use Rattle.strike.proofs.put_hundredths.Goals as goal
 

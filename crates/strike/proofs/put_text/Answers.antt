@@ -1,6 +1,5 @@
 -- `strike::put_text` meets its contract.
 use native.Mathlib.Omega.{arith}
-use borrow.Author.Rules.{rules}
 use Rattle.contract.proofs.StrikeField.{length_strike}
 use Rattle.decimal.proofs.Putting.{puts}
 use Rattle.strike.proofs.put_text.Goals as goal

@@ -1,5 +1,4 @@
 -- `style::blank` meets its contract.
-use borrow.Author.Rules.{rules}
 use Rattle.contract.specs.Style.{style_at}
 use Rattle.contract.proofs.Steps.{fields}
 use Rattle.style.proofs.blank.Goals as goal

@@ -1,5 +1,4 @@
 -- `style::put_blank` meets its contract.
-use borrow.Author.Rules.{rules}
 use Rattle.contract.proofs.StyleField as field
 use Rattle.style.proofs.put_blank.Goals as goal
 

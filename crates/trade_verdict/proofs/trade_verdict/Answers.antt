@@ -25,14 +25,14 @@ opened c e =
     (past _ (le-ltb _ _ c.if-listing-today.false) e))
 
 -- and so does each group of conditions after them
-parties-pass : (c : In_default) → Allowed ≡ parties_verdict c.args.deal
-parties-pass c = verdict_is c.parties.ensures c.in_default.is
+parties_pass : (c : In_default) → Allowed ≡ parties_verdict c.args.deal
+parties_pass c = verdict_is c.parties.ensures c.in_default.is
 
-price-passes : (c : In_default-price) → Allowed ≡ price_verdict c.args.listing.tick c.args.deal
-price-passes c = verdict_is c.price.ensures c.in_default-price.is
+price_passes : (c : In_default-price) → Allowed ≡ price_verdict c.args.listing.tick c.args.deal
+price_passes c = verdict_is c.price.ensures c.in_default-price.is
 
-limit-passes : (c : In_default-limit) → Allowed ≡ limit_verdict c.args.positions.now c.args.deal
-limit-passes c = verdict_is c.limit.ensures c.in_default-limit.is
+limit_passes : (c : In_default-limit) → Allowed ≡ limit_verdict c.args.positions.now c.args.deal
+limit_passes c = verdict_is c.limit.ensures c.in_default-limit.is
 
 pub returns-then-today-gt-FINAL_DAY : goal.returns-then-today-gt-FINAL_DAY
 returns-then-today-gt-FINAL_DAY c = search (hit, past, tests) depth 28
@@ -55,13 +55,13 @@ pub returns-in-Refused-price : goal.returns-in-Refused-price
 returns-in-Refused-price c =
     let at = goal.at.returns-in-Refused-price c in
     opened at.Else-listing-today
-    (group_passed (group_refused _ refl (verdict_is c.price.ensures c.in-Refused-price.is)) (parties-pass at.In_default))
+    (group_passed (group_refused _ refl (verdict_is c.price.ensures c.in-Refused-price.is)) (parties_pass at.In_default))
 
 pub limit-requires : goal.limit-requires
 limit-requires c =
     let at = goal.at.limit-requires c in
-    let p = parties_allowed c.args.deal (sym (parties-pass at.In_default)) in
-    let q = price_allowed c.args.listing.tick c.args.deal (sym (price-passes at.In_default-price)) in
+    let p = parties_allowed c.args.deal (sym (parties_pass at.In_default)) in
+    let q = price_allowed c.args.listing.tick c.args.deal (sym (price_passes at.In_default-price)) in
     (p.buyer, p.seller, p.buyer_section, p.seller_section, q.most)
 
 pub returns-in-Refused-limit : goal.returns-in-Refused-limit
@@ -69,21 +69,21 @@ returns-in-Refused-limit c =
     let at = goal.at.returns-in-Refused-limit c in
     opened at.Else-listing-today
     (group_passed
-    (group_passed (group_refused _ refl (verdict_is c.limit.ensures c.in-Refused-limit.is)) (price-passes at.In_default-price))
-    (parties-pass at.In_default))
+    (group_passed (group_refused _ refl (verdict_is c.limit.ensures c.in-Refused-limit.is)) (price_passes at.In_default-price))
+    (parties_pass at.In_default))
 
 pub returns-then-today-ge-BLOTTER : goal.returns-then-today-ge-BLOTTER
 returns-then-today-ge-BLOTTER c =
     let at = goal.at.returns-then-today-ge-BLOTTER c in
     opened at.Else-listing-today
     (group_passed
-    (group_passed (group_passed (hit _ (le-leb _ _ c.if-today-ge-BLOTTER.true) refl) (limit-passes at.In_default-limit)) (price-passes at.In_default-price))
-    (parties-pass at.In_default))
+    (group_passed (group_passed (hit _ (le-leb _ _ c.if-today-ge-BLOTTER.true) refl) (limit_passes at.In_default-limit)) (price_passes at.In_default-price))
+    (parties_pass at.In_default))
 
 pub returns : goal.returns
 returns c =
     let at = goal.at.returns c in
     opened at.Else-listing-today
     (group_passed
-    (group_passed (group_passed (past _ (lt-leb _ _ c.if-today-ge-BLOTTER.false) refl) (limit-passes at.In_default-limit)) (price-passes at.In_default-price))
-    (parties-pass at.In_default))
+    (group_passed (group_passed (past _ (lt-leb _ _ c.if-today-ge-BLOTTER.false) refl) (limit_passes at.In_default-limit)) (price_passes at.In_default-price))
+    (parties_pass at.In_default))

@@ -3,24 +3,23 @@ use mathlib.Core.Path.{◌≡◌, sym}
 use Prim.Native.Nat.{ℕ, ◌<◌, ◌%◌}
 use native.Mathlib.Nat.{mod-lt}
 use native.Mathlib.Omega.{arith}
-use borrow.Author.Rules.{rules}
 use Rattle.value.proofs.Rounding.{nearest_zero, round_down, round_up, whole_small}
 use Rattle.valuation.proofs.rounded.Goals as goal
 
-rest-small : (n d : ℕ) → (d ≡ 0 → ⊥) → n % d < d
-rest-small n d ne = mod-lt n (omega arith)
+rest_small : (n d : ℕ) → (d ≡ 0 → ⊥) → n % d < d
+rest_small n d ne = mod-lt n (omega arith)
 
 pub returns-then-d-eq0 : goal.returns-then-d-eq0
 returns-then-d-eq0 c = rw c.if-d-eq0.true (sym (nearest_zero c.args.n))
 
 pub overflow_sub-d : goal.overflow_sub-d
-overflow_sub-d c = omega (arith, rest-small c.args.n c.args.d c.if-d-eq0.false)
+overflow_sub-d c = omega (arith, rest_small c.args.n c.args.d c.if-d-eq0.false)
 
 pub overflow_add-result : goal.overflow_add-result
 overflow_add-result c =
     let n = c.args.n in
     let d = c.args.d in
-    let h : n % d < d = rest-small n d c.if-d-eq0.false in record {
+    let h : n % d < d = rest_small n d c.if-d-eq0.false in record {
       fits = omega (arith, whole_small n d h (omega (arith, c.if-rest-d.false)), c.ranges.n.fits);
     }
 
@@ -28,10 +27,10 @@ pub returns-then-rest-d : goal.returns-then-rest-d
 returns-then-rest-d c =
     let n = c.args.n in
     let d = c.args.d in
-    let h : n % d < d = rest-small n d c.if-d-eq0.false in round_down n d h (omega (arith, c.if-rest-d.true))
+    let h : n % d < d = rest_small n d c.if-d-eq0.false in round_down n d h (omega (arith, c.if-rest-d.true))
 
 pub returns-else-rest-d : goal.returns-else-rest-d
 returns-else-rest-d c =
     let n = c.args.n in
     let d = c.args.d in
-    let h : n % d < d = rest-small n d c.if-d-eq0.false in round_up n d h (omega (arith, c.if-rest-d.false))
+    let h : n % d < d = rest_small n d c.if-d-eq0.false in round_up n d h (omega (arith, c.if-rest-d.false))

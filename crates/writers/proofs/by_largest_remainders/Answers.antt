@@ -42,21 +42,21 @@ module _ (c : After-total-2) where
   whole_is : whole ≡ table places (whole_part e (sumℕ places w) w)
   whole_is = ap (λ (s : Shares). s.whole) c.shares-parts.ensures ∙ ap (λ (o : ℕ). table places (whole_part e o w)) c.total.ensures
 
-  rest-is : rest ≡ table places (remainder e (sumℕ places w) w)
-  rest-is = ap (λ (s : Shares). s.remainder) c.shares-parts.ensures ∙ ap (λ (o : ℕ). table places (remainder e o w)) c.total.ensures
+  rest_is : rest ≡ table places (remainder e (sumℕ places w) w)
+  rest_is = ap (λ (s : Shares). s.remainder) c.shares-parts.ensures ∙ ap (λ (o : ℕ). table places (remainder e o w)) c.total.ensures
 
   in_all : sumℕ places (amount whole) ≤ e
-  in_all = law.whole_most places e w whole rest some enough whole_is rest-is
+  in_all = law.whole_most places e w whole rest some enough whole_is rest_is
 
   left_few : e - c.total-2.result ≤ count places (λ k. ltb 0 (amount rest k))
-  left_few = omega (arith, c.total-2.ensures, law.left_remainders places e w whole rest some enough whole_is rest-is)
+  left_few = omega (arith, c.total-2.ensures, law.left_remainders places e w whole rest some enough whole_is rest_is)
 
   start : law.Served places (amount rest) (amount whole) whole rest 0
-  start = law.served_start places e w whole rest some enough whole_is rest-is
+  start = law.served_start places e w whole rest some enough whole_is rest_is
 
   all : (out rest' : List ℕ) → law.Served places (amount rest) (amount whole) out rest' (e - c.total-2.result) → out ≡ table places (assigned places e w)
   all out rest' S =
-      law.all_served places e w whole rest some enough whole_is rest-is out rest'
+      law.all_served places e w whole rest some enough whole_is rest_is out rest'
       (subst (λ (t : ℕ). law.Served places (amount rest) (amount whole) out rest' (e - t)) c.total-2.ensures S)
 
 pub overflow_sub-left : goal.overflow_sub-left

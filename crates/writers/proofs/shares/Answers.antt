@@ -17,21 +17,21 @@ loop-place-init c = (omega arith, updated_start _ 0 _ refl, updated_start _ 0 _ 
 no_part : (e o w : ℕ) → w ≡ 0 → 0 ≡ e * w / o
 no_part e o w q = rw (q, mul-zero e) (sym (zero-div o))
 
-no-remainder : (e o w : ℕ) → w ≡ 0 → 0 ≡ e * w % o
-no-remainder e o w q = rw (q, mul-zero e) (sym (zero-mod o))
+no_remainder : (e o w : ℕ) → w ≡ 0 → 0 ≡ e * w % o
+no_remainder e o w q = rw (q, mul-zero e) (sym (zero-mod o))
 
 few : (c : After-wide) → c.args.exercised ≤ 4294967295
 few c = omega arith
 
 -- no writer's whole part is more than he is short
-whole-few : (c : After-wide) → c.args.exercised * c.wide.result / c.args.interest ≤ c.wide.result
-whole-few c = div-le_of_le-mul c.args.interest (mul-le-mul_right c.wide.result c.requires.1)
+whole_few : (c : After-wide) → c.args.exercised * c.wide.result / c.args.interest ≤ c.wide.result
+whole_few c = div-le_of_le-mul c.args.interest (mul-le-mul_right c.wide.result c.requires.1)
 
 pub overflow_mul-product : goal.overflow_mul-product
 overflow_mul-product c = record { fits = omega (arith, mul-le-mul (few c) c.wide.ensures.1) }
 
 pub overflow_cast-whole : goal.overflow_cast-whole
-overflow_cast-whole c = record { fits = omega (arith, whole-few c, c.wide.ensures.1) }
+overflow_cast-whole c = record { fits = omega (arith, whole_few c, c.wide.ensures.1) }
 
 pub overflow_cast-rest : goal.overflow_cast-rest
 overflow_cast-rest c = record { fits = omega (arith, mod-lt (c.args.exercised * c.wide.result) c.requires.0) }
@@ -54,7 +54,7 @@ loop-place-preserved c =
       | else-shorts-place-ne0 w ↦ (
         omega arith,
         rw w.whole-is (updated_skip l.loop-place.invariant.1 (zero ∙ no_part a.exercised a.interest _ w.if-shorts-place-ne0.false)),
-        rw w.rest-is (updated_skip l.loop-place.invariant.2 (zero ∙ no-remainder a.exercised a.interest _ w.if-shorts-place-ne0.false)),
+        rw w.rest-is (updated_skip l.loop-place.invariant.2 (zero ∙ no_remainder a.exercised a.interest _ w.if-shorts-place-ne0.false)),
       )
     ]
 

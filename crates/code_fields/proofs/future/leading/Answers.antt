@@ -1,5 +1,4 @@
 -- `code_fields::future::leading` meets its contract.
-use borrow.Author.Rules.{rules}
 use Rattle.contract.proofs.Steps.{fields}
 use Rattle.contract.specs.Future.{future_at}
 use Rattle.code_fields.proofs.future.leading.Goals as goal

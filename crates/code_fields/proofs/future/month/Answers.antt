@@ -1,5 +1,4 @@
 -- `code_fields::future::month` meets its contract.
-use borrow.Author.Rules.{rules}
 use Rattle.contract.proofs.FutureField as field
 use Rattle.code_fields.proofs.future.month.Goals as goal
 

@@ -1,12 +1,8 @@
 -- `code_fields::future::name` meets its contract.
-use Prim.Native.Nat.{◌-◌, ◌≤◌}
-use mathlib.Core.Path.{◌≡◌, refl}
+use mathlib.Core.Path.{refl}
 use native.Mathlib.Omega.{arith}
-use lib.ListN.{length, drop}
-use borrow.Author.Rules.{rules}
 use borrow.Author.Tests.{not-true, not-false}
 use Rattle.contract.proofs.FutureField as field
-use Rattle.contract.specs.Future.{name_at, name_on}
 use Rattle.code_fields.proofs.future.name.Goals as goal
 
 pub loop-i-init : goal.loop-i-init

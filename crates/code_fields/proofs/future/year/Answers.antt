@@ -1,5 +1,4 @@
 -- `code_fields::future::year` meets its contract.
-use borrow.Author.Rules.{rules}
 use Rattle.contract.proofs.Steps.{fields}
 use Rattle.contract.specs.Future.{year_at}
 use Rattle.code_fields.proofs.future.year.Goals as goal

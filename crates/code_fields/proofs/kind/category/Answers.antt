@@ -1,5 +1,4 @@
 -- `code_fields::kind::category` meets its contract.
-use borrow.Author.Rules.{rules}
 use Rattle.contract.proofs.KindField.{category_is, category_past}
 use Rattle.choice.specs.Choice.{choose}
 use Rattle.choice.proofs.Chain.{tests}

@@ -1,5 +1,4 @@
 -- `code_fields::kind::letters` meets its contract.
-use borrow.Author.Rules.{rules}
 use Rattle.contract.proofs.Steps.{fields}
 use Rattle.contract.specs.Kind.{kind_at}
 use Rattle.code_fields.proofs.kind.letters.Goals as goal

@@ -1,5 +1,4 @@
 -- `code_fields::kind::option_type` meets its contract.
-use borrow.Author.Rules.{rules}
 use Rattle.contract.proofs.KindField.{type_is, type_past}
 use Rattle.choice.specs.Choice.{choose}
 use Rattle.choice.proofs.Chain.{tests}

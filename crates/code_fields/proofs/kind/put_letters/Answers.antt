@@ -1,5 +1,4 @@
 -- `code_fields::kind::put_letters` meets its contract.
-use borrow.Author.Rules.{rules}
 use Rattle.contract.proofs.KindField.{put_kind}
 use Rattle.code_fields.proofs.kind.put_letters.Goals as goal
 

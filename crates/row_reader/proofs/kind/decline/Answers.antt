@@ -1,5 +1,4 @@
 -- `row_reader::kind::decline` meets its contract.
-use borrow.Author.Rules.{rules}
 use Rattle.rows.proofs.Readers.{fields}
 use Rattle.rows.specs.Row.{decline_row}
 use Rattle.row_reader.proofs.kind.decline.Goals as goal

@@ -1,5 +1,4 @@
 -- `row_reader::kind::exercise` meets its contract.
-use borrow.Author.Rules.{rules}
 use Rattle.rows.proofs.Readers.{fields}
 use Rattle.rows.specs.Row.{exercise_row}
 use Rattle.row_reader.proofs.kind.exercise.Goals as goal

@@ -1,5 +1,4 @@
 -- `row_reader::kind::mark` meets its contract.
-use borrow.Author.Rules.{rules}
 use Rattle.rows.proofs.Readers.{fields}
 use Rattle.rows.specs.Row.{mark_row}
 use Rattle.row_reader.proofs.kind.mark.Goals as goal

@@ -1,15 +1,8 @@
 -- `row_reader::kind::trade` meets its contract.
-use borrow.Author.Rules.{rules}
 use Rattle.rows.proofs.Fields.{byte_value}
 use Rattle.rows.proofs.Readers.{fields}
 use Rattle.rows.specs.Row.{trade_row}
-use Rattle.row_reader.proofs.kind.trade.Goals.{After-at_end, In-Byte}
 use Rattle.row_reader.proofs.kind.trade.Goals as goal
-
--- the place behind the first field, from the row's end: `search` does not reach so far back
-module _ (c : After-at_end) where
-  abbrev first : In-Byte
-  first = c.before.before.before.before.before.before.before.before.before.before.before.before.before.before.before.before.before.before.before.before.before
 
 pub returns-in_default : goal.returns-in_default
 unfolding trade_row
@@ -35,7 +28,8 @@ pub returns-in_default-sections : goal.returns-in_default-sections
 unfolding trade_row
 returns-in_default-sections c = search fields depth 12
 
+-- `search` does not reach as far back as the first field: its step is written out
 pub returns : goal.returns
 unfolding trade_row
 returns c =
-    byte_value _ _ _ _ _ _ _ (first c).byte.ensures (first c).series-1.given.1 (search fields depth 12)
+    byte_value _ _ _ _ _ _ _ c.byte.ensures c.in-Byte.is (search fields depth 12)
