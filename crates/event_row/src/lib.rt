@@ -1,5 +1,6 @@
 // An event of a row: it is carried out or refused, and its lines are put at a place of the buffer.
 #![tactic(auto)]
+
 ghost use Rattle.std.specs.Prelude.{◌≡◌, false, ◌+◌, ◌≤◌, length};
 ghost use Rattle.book.specs.Good.{Good};
 ghost use Rattle.book.specs.declared.state.Event.TheVariants.{Intraday, Evening};

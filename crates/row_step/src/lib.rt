@@ -1,5 +1,6 @@
 // One row: its event is carried out or refused, and its lines are put behind what waits.
 #![tactic(auto)]
+
 ghost use Rattle.std.specs.Prelude.{◌+◌, ◌≤◌, length};
 ghost use Rattle.book.specs.Good.{Good};
 ghost use Rattle.report.specs.Report.{row_room};

@@ -1,5 +1,6 @@
 // The next row of a buffer, where it is an event on one series.
 #![tactic(auto)]
+
 ghost use Rattle.std.specs.Prelude.{◌≡◌};
 ghost use Rattle.calendar.specs.Days.{dates_of};
 ghost use Rattle.stream.specs.Rows.{series_row_at};

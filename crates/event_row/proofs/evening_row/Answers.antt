@@ -3,19 +3,17 @@ use mathlib.Core.Path.{refl, ap}
 use Rattle.book.specs.declared.state.Event.TheVariants.{Evening}
 use Rattle.book.specs.declared.state.Step.{Step}
 use Rattle.book.proofs.Keeps.{stays_good}
-use borrow.Author.Rules.{rules}
 use Rattle.event_row.proofs.evening_row.Goals as goal
 
 pub returns : goal.returns
 returns c =
-    let b = c.before.before.before.before.before.before.before.before in
     let s = c.evening-step in
     let p = c.report-next.ensures in
     record {
-      good = stays_good b.args.book Evening s.result b.requires.0 s.ensures;
+      good = stays_good c.args.book Evening s.result c.requires.0 s.ensures;
       book = ap (λ (x : Step). x.book) s.ensures;
       number = refl;
-      lines = rw (← s.ensures) p.0;
-      room = p.1;
+      lines = rw (← s.ensures) p.put;
+      room = p.upper_bound;
       intact = refl;
     }

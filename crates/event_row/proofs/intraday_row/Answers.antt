@@ -6,22 +6,18 @@ use Rattle.book.specs.declared.state.Step.{Step}
 use Rattle.book.proofs.Keeps.{stays_good}
 use Rattle.report.proofs.Fields.{◌then◌}
 use Rattle.report.proofs.Quiet.{intraday_report}
-use borrow.Author.Rules.{rules}
 use Rattle.event_row.proofs.intraday_row.Goals as goal
 
 pub returns : goal.returns
 returns c =
-    let paid = c.before.before.before in
-    let answer = paid.before.before.before.before in
-    let s = answer.before.before.before in
-    let b = s.before.before in
-    let p = paid.money-end.ensures in
-    let a = answer.answered-first.ensures in
+    let s = c.intraday-step in
+    let p = c.money-end.ensures in
+    let a = c.answered-first.ensures in
     record {
-      good = stays_good b.args.book Intraday s.intraday-step.result b.requires.0 s.intraday-step.ensures;
-      book = ap (λ (x : Step). x.book) s.intraday-step.ensures;
+      good = stays_good c.args.book Intraday s.result c.requires.0 s.ensures;
+      book = ap (λ (x : Step). x.book) s.ensures;
       number = refl;
-      lines = rw (intraday_report b.args.row b.args.book, ← s.intraday-step.ensures) (a.0 then p.0);
-      room = omega (arith, a.1, p.1);
+      lines = rw (intraday_report c.args.row c.args.book, ← s.ensures) (a.put then p.put);
+      room = omega (arith, a.upper_bound, p.upper_bound);
       intact = refl;
     }

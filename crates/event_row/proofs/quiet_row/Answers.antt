@@ -3,19 +3,17 @@ use mathlib.Core.Path.{refl, ap}
 use native.Mathlib.Omega.{arith}
 use Rattle.book.specs.declared.state.Step.{Step}
 use Rattle.report.proofs.Quiet.{quiet_report}
-use borrow.Author.Rules.{rules}
 use Rattle.event_row.proofs.quiet_row.Goals as goal
 
 pub returns : goal.returns
 returns c =
-    let b = c.before.before.before.before.before.before.before in
     let s = c.step-step.ensures in
     let p = c.answered-next.ensures in
     record {
       good = s.1;
       book = ap (λ (x : Step). x.book) s.0;
       number = refl;
-      lines = rw (quiet_report b.args.row b.args.book b.requires.0 b.args.event b.requires.2, ← s.0) p.0;
-      room = omega (arith, p.1);
+      lines = rw (quiet_report c.args.row c.args.book c.requires.0 c.args.event c.requires.2, ← s.0) p.put;
+      room = omega (arith, p.upper_bound);
       intact = refl;
     }

@@ -1,14 +1,13 @@
 -- `row_step::pass_row` meets its contract: the row is answered, and the replay is ready for the next.
-use Rattle.std.proofs.Common.{arith, rules}
+use Rattle.std.proofs.Common.{arith}
 use Rattle.stream.proofs.Lines.{row_answered}
 use Rattle.row_step.proofs.pass_row.Goals as goal
 
 pub returns : goal.returns
-returns c =
-    let s = c.before.before.before.before.before.before.before.before.before.before.before in
+returns g c =
     let a = c.answer_row-next in
     let f = c.flushed-waiting in
     record {
-      answered = row_answered s.requires a.ensures f.ensures;
-      ready = record { good = a.ensures.good; waiting = f.ensures.room; room = omega (arith, a.auto.1, f.auto.0, s.requires.room) };
+      answered = row_answered c.requires a.ensures f.ensures;
+      ready = record { good = a.ensures.good; waiting = f.ensures.room; room = omega (arith, a.auto.out, f.auto.out, c.requires.room) };
     }

@@ -1,5 +1,4 @@
 -- `series_row::series_row` meets its contract.
-use borrow.Author.Rules.{rules}
 use Prim.Native.Nat.{◌+◌, ◌≤◌}
 use native.Mathlib.Omega.{arith}
 use lib.ListN.{length}
@@ -37,9 +36,7 @@ unfolding series_row_at
 returns-then-series-ge-SERIES c = search (end_found, row_on_none) depth 12
 
 pub overflow_add-result : goal.overflow_add-result
-overflow_add-result c =
-    let r = c.before.before.before.before.before.before.before in
-    omega (arith, (ends r).1, r.before.before.before.before.before.before.well-formed.1.0)
+overflow_add-result c = omega (arith, (ends (goal.at.overflow_add-result c).In-At).1, c.well_formed.1.0)
 
 pub returns : goal.returns
 unfolding series_row_at
