@@ -1,5 +1,6 @@
 // The file of the trading calendar, in the folder that the program runs in.
 #![tactic(auto)]
+
 ghost use Rattle.std.specs.Prelude.{◌+◌, ◌<◌, ◌≡◌, length};
 ghost use Rattle.calendar.specs.Text.{max_text};
 ghost use Rattle.calendar.specs.File.{InBuffer, LoadedFrom, LoadedBy, Loaded};
@@ -8,10 +9,9 @@ use buffers::fill;
 use calendar::bounds::MAX_TEXT;
 use calendar::types::{CalendarRead, Contents, Opened, Reading};
 use calendar_found::{of_contents, opened, without_dates};
-use std::fs;
-use std::io;
 use std::io::{ErrorKind, Read};
 use std::rt::Files;
+use std::{fs, io};
 use stream::types::Input;
 
 // Reads until the file ends or the buffer is full.

@@ -1,5 +1,6 @@
 // The rows of a buffer: events on one series are carried out in the book where it stands.
 #![tactic(auto)]
+
 ghost use Rattle.calendar.specs.Days.{dates_of};
 ghost use Rattle.stream.specs.Output.{Ready};
 ghost use Rattle.stream.specs.Parts.{AllPassed};
@@ -45,7 +46,16 @@ pub fn whole_rows<W: Write>(
             let End::At(end) = row_cut::row_end(input, from) else {
                 return up_to(book, row, at, intact, from);
             };
-            let next = pass_row(output, calendar, &input[from..end], out, book, row, at, intact);
+            let next = pass_row(
+                output,
+                calendar,
+                &input[from..end],
+                out,
+                book,
+                row,
+                at,
+                intact,
+            );
             let after = next.book;
             book = after;
             let every = book.series;
