@@ -1,5 +1,6 @@
 // The rows of a buffer, and what it keeps of the row that it leaves unfinished.
 #![tactic(auto)]
+
 ghost use Rattle.std.specs.Prelude.{[], ◌≤◌, length, take};
 ghost use Rattle.calendar.specs.Days.{dates_of};
 ghost use Rattle.stream.specs.Input.{piece};
