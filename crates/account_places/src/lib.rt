@@ -1,5 +1,6 @@
 // Where an account's numbers stand in an array of a series, and their sum.
 #![tactic(auto)]
+
 ghost use Rattle.std.specs.Prelude.{◌≡◌, ◌<◌};
 ghost use Rattle.integer.specs.Table.{at};
 ghost use Rattle.terms.specs.Bounds.{accounts};

@@ -1,5 +1,6 @@
 // Money in kopecks: by series and account, series i, account a at i * ACCOUNTS + a; and of all accounts.
 #![tactic(auto)]
+
 ghost use Rattle.std.specs.Prelude.{◌≡◌, pos, ◌+ℤ◌, ◌-ℤ◌, ◌*ℤ◌, ◌<◌, ◌*◌};
 ghost use Rattle.integer.specs.Bounds.{Bounded};
 ghost use Rattle.integer.specs.Sum.{sum_to};

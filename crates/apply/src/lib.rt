@@ -1,5 +1,6 @@
 // What an effect leaves of a series. The arrays are changed in place.
 #![tactic(auto)]
+
 ghost use Rattle.std.specs.Prelude.{◌≡◌};
 ghost use Rattle.integer.specs.Bounds.{Bounded};
 ghost use Rattle.terms.specs.Bounds.{max_position};

@@ -1,5 +1,6 @@
 // What the day's trades cost each account in each series.
 #![tactic(auto)]
+
 ghost use Rattle.std.specs.Prelude.{◌≡◌, ◌≤◌, ◌*◌, pos, get_or};
 ghost use Rattle.terms.specs.Bounds.{blotter_room, max_tick_value};
 ghost use Rattle.value.specs.Value.{value_of};

@@ -1,5 +1,6 @@
 // The clearing book: every event is carried out or refused, with the money of all accounts beside the answer.
 #![tactic(auto)]
+
 mod whole; // whole.rt: events on the whole book
 
 ghost use Rattle.std.specs.Prelude.{◌≡◌};

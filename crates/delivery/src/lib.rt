@@ -1,5 +1,6 @@
 // What the exercise of an evening leaves of a series: the positions that remain, and the futures that arise.
 #![tactic(auto)]
+
 ghost use Rattle.std.specs.Prelude.{◌≡◌, ℕ, ◌≤◌, pos};
 ghost use Rattle.integer.specs.Bounds.{Within, Bounded};
 ghost use Rattle.integer.specs.Table.{at, table};

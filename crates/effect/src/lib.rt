@@ -1,5 +1,6 @@
 // What an event on one series does, or why it is refused.
 #![tactic(auto)]
+
 ghost use Rattle.std.specs.Prelude.{◌≡◌, ◌<◌};
 ghost use Rattle.book.specs.Effects as rule;
 

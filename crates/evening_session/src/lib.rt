@@ -1,5 +1,6 @@
 // What an evening session does, once it is allowed.
 #![tactic(auto)]
+
 ghost use Rattle.std.specs.Prelude.{◌≡◌, ◌≤◌};
 ghost use Rattle.terms.specs.Bounds.{final_day};
 ghost use Rattle.book.specs.Good.{Good};

@@ -1,5 +1,6 @@
 // A day of the full size, in loops that hold the book: bench/ takes the time of a trade's step and of an evening's.
 #![tactic(auto)]
+
 ghost use Rattle.std.specs.Prelude.{◌≡◌, ◌+◌, ◌*◌, ◌%◌, ◌^◌, ◌<◌, ◌≤◌};
 ghost use Rattle.terms.specs.Bounds.{series_room, blotter_room};
 ghost use Rattle.book.specs.Good.{Good};

@@ -1,5 +1,6 @@
 // What the holders of a series exercise.
 #![tactic(auto)]
+
 ghost use Rattle.std.specs.Prelude.{◌≡◌, min, max};
 ghost use Rattle.integer.specs.Table.{at, table};
 ghost use Rattle.places.specs.Places.{places, amount, flag};

@@ -1,5 +1,6 @@
 // What a session asks of the marks: the lowest live series that lacks one.
 #![tactic(auto)]
+
 ghost use Rattle.std.specs.Prelude.{◌≡◌, ◌<◌};
 ghost use Rattle.book.specs.Good.{Good};
 ghost use Rattle.book.specs.Verdicts.{first_unmarked};

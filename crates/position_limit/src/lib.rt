@@ -1,5 +1,6 @@
 // The position limit: what each side of a trade has after it, its two sections added without sign.
 #![tactic(auto)]
+
 ghost use Rattle.std.specs.Prelude.{◌≡◌, ◌≤◌, ◌<◌, eqb, pos};
 ghost use Rattle.choice.specs.Choice.{choose};
 ghost use Rattle.integer.specs.Bounds.{Within};

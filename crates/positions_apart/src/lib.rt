@@ -1,5 +1,6 @@
 // The positions of all series, taken out of the series while rows are carried out, and put back.
 #![tactic(auto)]
+
 ghost use Rattle.std.specs.Prelude.{◌≡◌};
 ghost use Rattle.book.specs.Apart as rule;
 

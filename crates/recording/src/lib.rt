@@ -1,5 +1,6 @@
 // What an effect leaves of the blotter, and its answer.
 #![tactic(auto)]
+
 ghost use Rattle.std.specs.Prelude.{◌≡◌, ◌≤◌};
 ghost use Rattle.terms.specs.Bounds.{blotter_room};
 ghost use Rattle.book.specs.Effects as rule;

@@ -1,5 +1,6 @@
 // What a refused event gives.
 #![tactic(auto)]
+
 ghost use Rattle.std.specs.Prelude.{◌≡◌};
 ghost use Rattle.choice.specs.Choice.{choose};
 ghost use Rattle.series.specs.declared.refusal.Refusal.TheVariants.{Finished, UnknownSeries};

@@ -1,5 +1,6 @@
 // Whether a request to exercise or a decline may be made: the conditions, tested in the order of the rule.
 #![tactic(auto)]
+
 ghost use Rattle.std.specs.Prelude.{◌≡◌, ◌<◌};
 ghost use Rattle.series.specs.Conditions.{too_early};
 ghost use Rattle.book.specs.Verdicts as rule;

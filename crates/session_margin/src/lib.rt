@@ -1,5 +1,6 @@
 // The variation margin of a series in a session, account by account.
 #![tactic(auto)]
+
 ghost use Rattle.std.specs.Prelude.{◌≡◌, not};
 ghost use Rattle.choice.specs.Choice.{choose};
 ghost use Rattle.integer.specs.Table.{at, table};

@@ -1,5 +1,6 @@
 // The two sessions: what they ask, in the order of the refusals.
 #![tactic(auto)]
+
 ghost use Rattle.std.specs.Prelude.{◌≡◌};
 ghost use Rattle.series.specs.declared.refusal.Refusal.TheVariants.{Finished};
 ghost use Rattle.book.specs.Good.{Good};

@@ -4,10 +4,10 @@ use mathlib.Core.Bool.{Bool, true, false}
 use mathlib.Core.List.{List}
 use Prim.Native.Nat.{ℕ}
 use lib.IntN.{ℤ, pos, ◌+ℤ◌}
-use lib.ListN.{replicate, get_or}
+use lib.ListN.{replicate}
 use Rattle.choice.specs.Choice.{choose}
 use Rattle.places.specs.Places.{places, amount, flag}
-use Rattle.exercise.specs.Evening.{outcome, remaining, arisen}
+use Rattle.exercise.specs.Evening.{outcome, remaining}
 use Rattle.exercise.specs.declared.types.Outcome.{Outcome}
 use Rattle.exercise.proofs.Session.{arisen_within}
 use Rattle.integer.specs.Bounds.{Bounded}

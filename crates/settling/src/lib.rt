@@ -1,5 +1,6 @@
 // What a session leaves of a series.
 #![tactic(auto)]
+
 pub mod expiry; // expiry.rt: one series after an evening
 
 ghost use Rattle.std.specs.Prelude.{◌≡◌, not, ◌≤◌, ◌<◌};

@@ -1,5 +1,6 @@
 // Between whom a trade may be made: two accounts of the book, each with one of its sections.
 #![tactic(auto)]
+
 ghost use Rattle.std.specs.Prelude.{◌≡◌};
 ghost use Rattle.book.specs.Verdicts as rule;
 

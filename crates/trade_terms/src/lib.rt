@@ -1,5 +1,6 @@
 // The quantity and the price of a trade.
 #![tactic(auto)]
+
 ghost use Rattle.std.specs.Prelude.{◌≡◌, ◌<◌};
 ghost use Rattle.book.specs.Verdicts as rule;
 

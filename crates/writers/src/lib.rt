@@ -1,5 +1,6 @@
 // What the writers of a series are assigned.
 #![tactic(auto)]
+
 pub mod sum;
 
 ghost use Rattle.std.specs.Prelude.{◌≡◌, ◌≤◌, ◌<◌, ◌^◌};

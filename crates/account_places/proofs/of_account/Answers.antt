@@ -1,13 +1,11 @@
 -- `account_places::of_account` meets its contract: the sum so far is that of the sections passed.
-use borrow.Author.Rules.{rules}
 use mathlib.Core.Path.{◌≡◌, sym, ap, ◌∙◌}
-use Prim.Native.Nat.{ℕ, ◌+◌, ◌*◌, ◌-◌, ◌≤◌}
+use Prim.Native.Nat.{ℕ, ◌+◌, ◌*◌}
 use native.Mathlib.Nat.{mul-le-mul_right}
 use native.Mathlib.Omega.{arith}
 use lib.IntN.{ℤ, ◌+ℤ◌}
 use mir.Syntax.{w32, w64}
 use mir.Val.{to_z}
-use Rattle.integer.specs.Bounds.{Within}
 use Rattle.integer.proofs.Bounds.{within_le, within_pos, within_add}
 use Rattle.integer.proofs.Machine.{Reads, same, any, plus, local, fits}
 use Rattle.integer.specs.Sum.{sum_to}

@@ -1,10 +1,7 @@
 -- `account_places::place_in` meets its contract: the account's places come after those of the accounts before it.
 use mathlib.Core.Path.{refl}
-use borrow.Author.Rules.{rules}
 use Rattle.places.specs.Places.{place_in}
 use Rattle.places.proofs.Places.{place_within}
-use Rattle.account_places.proofs.place_in.Reads as reads
-use Rattle.account_places.proofs.place_in.Lts as lts
 use Rattle.account_places.proofs.place_in.Goals as goal
 
 pub returns : goal.returns

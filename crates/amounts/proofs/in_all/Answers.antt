@@ -1,17 +1,12 @@
 -- `amounts::in_all` meets its contract: the loop fills the sums account by account.
 use borrow.Author.Rules.{rules}
 use mathlib.Core.Path.{◌∙◌}
-use Prim.Native.Nat.{◌-◌, ◌≤◌}
 use native.Mathlib.Omega.{arith}
 use lib.IntN.{pos}
 use mir.Syntax.{w64}
 use mir.Val.{SFits}
 use mir.Facts.{to_z-of_z}
-use Rattle.integer.specs.Sum.{sum_to}
-use Rattle.integer.specs.Table.{at}
-use Rattle.integer.proofs.Table.{Filled, filled_start, filled_next, filled_all}
-use Rattle.terms.specs.Bounds.{accounts, series_room}
-use Rattle.margin.specs.BySeries.{cell}
+use Rattle.integer.proofs.Table.{filled_start, filled_next, filled_all}
 use Rattle.amounts.proofs.in_all.Goals as goal
 
 pub loop-a-init : goal.loop-a-init

@@ -1,14 +1,8 @@
-use borrow.Author.Rules.{rules}
-use mathlib.Core.Path.{◌∙◌}
 use Prim.Native.Nat.{◌-◌, ◌≤◌}
-use native.Mathlib.Omega.{arith}
 use lib.IntN.{pos}
-use mir.Syntax.{w64}
-use mir.Val.{SFits}
-use mir.Facts.{to_z-of_z}
 use Rattle.integer.specs.Sum.{sum_to}
 use Rattle.integer.specs.Table.{at}
-use Rattle.integer.proofs.Table.{Filled, filled_start, filled_next, filled_all}
+use Rattle.integer.proofs.Table.{Filled}
 use Rattle.terms.specs.Bounds.{accounts, series_room}
 use Rattle.margin.specs.BySeries.{cell}
 use Rattle.amounts.proofs.in_all.Given as goal

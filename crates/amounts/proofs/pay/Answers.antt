@@ -1,13 +1,10 @@
 -- `amounts::pay` meets its contract: the loop fills the sums place by place.
 use borrow.Author.Rules.{rules}
-use Prim.Native.Nat.{◌-◌, ◌≤◌}
 use native.Mathlib.Omega.{arith}
-use lib.IntN.{pos, ◌+ℤ◌}
+use lib.IntN.{pos}
 use mir.Syntax.{w64}
 use Rattle.integer.proofs.Machine.{fits}
-use Rattle.integer.specs.Table.{at}
-use Rattle.integer.proofs.Table.{Filled, filled_start, filled_all}
-use Rattle.terms.specs.Bounds.{accounts}
+use Rattle.integer.proofs.Table.{filled_start, filled_all}
 use Rattle.margin.proofs.Combined.{sum_at, sum_next}
 use Rattle.amounts.proofs.pay.Goals as goal
 

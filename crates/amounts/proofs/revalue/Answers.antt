@@ -1,7 +1,6 @@
 -- `amounts::revalue` meets its contract: the accounts passed have their margin in the series, and all else is as it was.
-use borrow.Author.Rules.{rules}
 use mathlib.Core.Path.{◌≡◌, sym, ap, ap₂, subst, ◌∙◌}
-use Prim.Native.Nat.{◌+◌, ◌-◌, ◌≤◌, ◌<◌}
+use Prim.Native.Nat.{◌+◌, ◌<◌}
 use native.Mathlib.Omega.{arith}
 use lib.IntN.{ℤ, pos, ◌-ℤ◌, ◌*ℤ◌}
 use mir.Syntax.{w64}
@@ -11,10 +10,10 @@ use Rattle.integer.proofs.Machine.{Reads, local}
 use Rattle.integer.specs.Table.{at}
 use Rattle.places.specs.Places.{of_account}
 use Rattle.places.proofs.Places.{limited_of_account}
-use Rattle.terms.specs.Bounds.{accounts, max_position}
+use Rattle.terms.specs.Bounds.{max_position}
 use Rattle.margin.specs.Bounds.{max_gain, max_traded}
 use Rattle.margin.specs.BySeries.{cell, cells}
-use Rattle.margin.proofs.BySeries.{RowChanged, row_start, row_at, row_next, row_all, cell_below}
+use Rattle.margin.proofs.BySeries.{row_start, row_at, row_next, row_all, cell_below}
 use Rattle.amounts.proofs.Fits.{worth_fits, gain_fits, margin_read, margin_fits}
 use Rattle.amounts.proofs.revalue.Goals.{After-of_account-b, In-loop-a, Start}
 use Rattle.amounts.proofs.revalue.Goals as goal

@@ -1,8 +1,5 @@
 -- `apply::move_positions` meets its contract.
-use mathlib.Core.Path.{refl}
 use Rattle.book.proofs.Effects.{fits_trade}
-use borrow.Author.Rules.{rules}
-use Rattle.apply.proofs.Others.{not_moved}
 use Rattle.apply.proofs.move_positions.Goals as goal
 
 pub trade-requires : goal.trade-requires

@@ -1,8 +1,5 @@
 -- `apply::set_decline` meets its contract.
-use mathlib.Core.Path.{refl}
 use Rattle.book.proofs.Effects.{fits_request, fits_waiver}
-use borrow.Author.Rules.{rules}
-use Rattle.apply.proofs.Others.{not_declined}
 use Rattle.apply.proofs.set_decline.Goals as goal
 
 pub decline-requires : goal.decline-requires

@@ -1,9 +1,6 @@
 -- `apply::set_request` meets its contract.
-use mathlib.Core.Path.{refl}
 use native.Mathlib.Omega.{arith}
 use Rattle.book.proofs.Effects.{fits_request, fits_waiver}
-use borrow.Author.Rules.{rules}
-use Rattle.apply.proofs.Others.{not_requested}
 use Rattle.apply.proofs.set_request.Goals as goal
 
 pub overflow_cast-r : goal.overflow_cast-r

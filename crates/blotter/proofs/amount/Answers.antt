@@ -8,7 +8,6 @@ use mir.Syntax.{w64}
 use Rattle.integer.proofs.Machine.{nat}
 use Rattle.margin.specs.Bounds.{max_value, max_due}
 use Rattle.margin.proofs.Bounds.{option_value_bound}
-use borrow.Author.Rules.{rules}
 use Rattle.blotter.proofs.amount.Goals.{After-struct_known-1}
 use Rattle.blotter.proofs.amount.Goals as goal
 

@@ -1,8 +1,7 @@
 -- `blotter::traded` meets its contract: after k trades the array holds what those k cost, by series and account.
-use borrow.Author.Rules.{rules}
 use mathlib.Core.Path.{◌≡◌, sym}
 use mathlib.Core.Logic.{◌≢◌}
-use Prim.Native.Nat.{ℕ, ◌+◌, ◌-◌, ◌≤◌, ◌<◌}
+use Prim.Native.Nat.{ℕ, ◌+◌, ◌<◌}
 use native.Mathlib.Omega.{arith}
 use lib.IntN.{pos, ◌+ℤ◌}
 use lib.ListN.{get_or, set}
@@ -14,9 +13,9 @@ use Rattle.integer.proofs.Sum.{sum_to_zero, sum_to_next}
 use Rattle.integer.specs.Table.{at}
 use Rattle.margin.specs.Bounds.{max_due, max_traded}
 use Rattle.margin.specs.BySeries.{cell, cells}
-use Rattle.margin.specs.Margin.{trade_of, trades_cost, TradeWithin}
+use Rattle.margin.specs.Margin.{trade_of, TradeWithin}
 use Rattle.margin.specs.declared.trade.Trade.{Trade}
-use Rattle.margin.proofs.BySeries.{Holds, holds_zeros, holds_ext, is_by_series, bounded_holds, cell_below}
+use Rattle.margin.proofs.BySeries.{holds_zeros, holds_ext, is_by_series, bounded_holds, cell_below}
 use Rattle.margin.proofs.Cost.{due, due_small, paid_over, trades_small}
 use Rattle.blotter.proofs.traded.Goals.{After-amount-due, In-loop-k}
 use Rattle.blotter.proofs.traded.Goals as goal

@@ -6,7 +6,6 @@ use Rattle.book.specs.Good.{Good}
 use Rattle.book.specs.State.{empty_book, with_all_series}
 use Rattle.book.specs.declared.state.Book.{Book}
 use Rattle.book.proofs.KeepsEmpty.{good_empty}
-use borrow.Author.Rules.{rules}
 use Rattle.clearing.proofs.empty.Goals.{After-new_series-blank}
 use Rattle.clearing.proofs.empty.Goals as goal
 

@@ -13,7 +13,6 @@ use Rattle.book.specs.declared.state.Event.{Event}
 use Rattle.book.specs.declared.state.Step.{Step}
 use Rattle.book.proofs.Effects.{next_record_within, effect_fits, step_stored}
 use Rattle.book.proofs.Keeps.{stays_good}
-use borrow.Author.Rules.{rules}
 use Rattle.clearing.proofs.step.Goals.{After-effect-effect, After-next_record-n}
 use Rattle.clearing.proofs.step.Goals as goal
 

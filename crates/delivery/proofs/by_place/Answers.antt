@@ -1,17 +1,15 @@
 -- `delivery::by_place` meets its contract: the places passed have their numbers. Assumes nothing.
 use borrow.Author.Rules.{rules}
 use mathlib.Core.Path.{refl, ap, ◌∙◌}
-use Prim.Native.Nat.{◌≤◌, ◌-◌}
 use native.Mathlib.Omega.{arith}
 use lib.IntN.{ℤ, pos}
 use mir.Syntax.{w32}
 use mir.Val.{SFits}
 use mir.Facts.{to_z-of_z}
 use Rattle.integer.proofs.Machine.{param, passed}
-use Rattle.integer.specs.Table.{at}
-use Rattle.integer.proofs.Table.{Filled, filled_start, filled_next, filled_all}
-use Rattle.places.specs.Places.{places, amount}
-use Rattle.exercise.specs.Evening.{shrunk, futures}
+use Rattle.integer.proofs.Table.{filled_start, filled_next, filled_all}
+use Rattle.places.specs.Places.{amount}
+use Rattle.exercise.specs.Evening.{shrunk}
 use Rattle.delivery.proofs.by_place.Goals as goal
 
 -- ---- what the code asks, in its order

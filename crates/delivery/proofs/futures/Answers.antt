@@ -1,5 +1,4 @@
 -- `delivery::futures` meets its contract. Assumes nothing.
-use borrow.Author.Rules.{rules}
 use Prim.Native.Nat.{ℕ, ◌+◌, ◌≤◌}
 use lib.IntN.{pos, ◌-ℤ◌}
 use mir.Syntax.{w32}

@@ -3,7 +3,6 @@ use mathlib.Core.Path.{◌≡◌, refl, sym, ap, ◌∙◌}
 use Rattle.book.specs.Effects.{effect_of}
 use Rattle.book.specs.declared.state.Effect.{Effect}
 use Rattle.book.specs.declared.state.Event.{Event}
-use borrow.Author.Rules.{rules}
 use Rattle.effect.proofs.effect.Goals as goal
 
 -- what an arm gave is the effect of the event that it matched

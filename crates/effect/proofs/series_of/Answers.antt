@@ -1,7 +1,6 @@
 -- `effect::series_of` meets its contract.
 use mathlib.Core.Path.{sym, ap}
 use Rattle.book.specs.Effects.{series_of}
-use borrow.Author.Rules.{rules}
 use Rattle.effect.proofs.series_of.Goals as goal
 
 pub returns-in-Trade : goal.returns-in-Trade

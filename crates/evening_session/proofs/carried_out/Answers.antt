@@ -2,7 +2,7 @@
 use mathlib.Core.Path.{◌≡◌, refl, ap, ◌∙◌}
 use mathlib.Core.Bool.{false}
 use mathlib.Core.List.{List}
-use Prim.Native.Nat.{ℕ, ◌+◌, ◌-◌, ◌<◌}
+use Prim.Native.Nat.{ℕ, ◌+◌, ◌<◌}
 use native.Mathlib.Omega.{arith}
 use lib.IntN.{ℤ, ◌+ℤ◌, ◌-ℤ◌}
 use lib.ListN.{get_or}
@@ -14,9 +14,7 @@ use Rattle.margin.specs.BySeries.{cells, by_series}
 use Rattle.margin.specs.Margin.{trades_cost}
 use Rattle.places.specs.Places.{Limited}
 use Rattle.terms.specs.Bounds.{accounts, series_room, max_position}
-use Rattle.series.specs.Changes.{settled}
 use Rattle.series.specs.Good.{GoodSeries}
-use Rattle.series.specs.declared.state.Series.{Series}
 use Rattle.book.specs.Sessions.{changed, evening_margin_in, evening_money, paid_into}
 use Rattle.book.specs.State.{no_series, none_paid, with_day, with_all_series, with_blotter, with_intraday, with_cash}
 use Rattle.book.specs.declared.state.Answer.TheVariants.{Done}
@@ -24,8 +22,7 @@ use Rattle.book.specs.declared.state.Book.{Book}
 use Rattle.book.proofs.Money.{evening_within, cash_bounded}
 use Rattle.book.proofs.SessionMoney.{paid_for, settled_limited, evening_is, evening_bounded, rest_bounded, evening_in_all, paid_into_lem}
 use Rattle.book.proofs.Trades.{trades_within, coefficients_within}
-use Rattle.session_margin.proofs.EachSeries.{Passed, passed_none, passed_room, passed_here, passed_costs, passed_left, passed_next, passed_series, passed_margin}
-use borrow.Author.Rules.{rules}
+use Rattle.session_margin.proofs.EachSeries.{passed_none, passed_room, passed_here, passed_costs, passed_left, passed_next, passed_series, passed_margin}
 use Rattle.evening_session.proofs.carried_out.Goals.{After-in_all-money, After-less-rest, After-loop-i, After-pay-paid, In-loop-i, Start}
 use Rattle.evening_session.proofs.carried_out.Goals as goal
 use Rattle.evening_session.proofs.carried_out.Invariants.{settled_on}

@@ -1,10 +1,5 @@
-use Rattle.std.proofs.Common.{◌≡◌, ℕ, ◌+◌, ◌-◌, ◌≤◌, refl, ap, ◌∙◌, arith, rules}
-use native.Mathlib.Numerals.{unary_clauses}
+use Rattle.std.proofs.Common.{◌≡◌, ◌-◌, ◌≤◌}
 use Rattle.book.specs.Good.{Good}
-use Rattle.book.specs.Step.{step_of}
-use Rattle.book.specs.declared.state.Book.{Book}
-use Rattle.book.specs.declared.state.Event.{Event}
-use Rattle.book.specs.declared.state.Step.{Step}
 use Rattle.full_day.specs.Day as rule
 use Rattle.full_day.proofs.after.Given as goal
 

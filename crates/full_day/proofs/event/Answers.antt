@@ -1,5 +1,5 @@
 -- `full_day::event` meets its contract.
-use Rattle.std.proofs.Common.{◌∙◌, rules}
+use Rattle.std.proofs.Common.{◌∙◌}
 use Rattle.choice.proofs.Chain.{hit, past, tests}
 use Rattle.full_day.proofs.event.Goals as goal
 

@@ -1,10 +1,5 @@
-use Rattle.std.proofs.Common.{◌≡◌, ℕ, ◌-◌, ◌*◌, ◌%◌, ◌^◌, ◌≤◌, refl, ap, ◌∙◌, arith, rules}
-use Rattle.book.specs.Step.{step_of}
-use Rattle.book.specs.declared.state.Book.{Book}
-use Rattle.book.specs.declared.state.Event.TheVariants.{Evening}
-use Rattle.book.specs.declared.state.Step.{Step}
+use Rattle.std.proofs.Common.{◌≡◌, ◌-◌, ◌*◌, ◌%◌, ◌^◌, ◌≤◌}
 use Rattle.full_day.specs.Day as rule
-use Rattle.full_day.proofs.Counting.{none, one_more}
 use Rattle.full_day.proofs.full_day_evenings.Given as goal
 
 abbrev pub invariant-loop-n : goal.invariant-loop-n

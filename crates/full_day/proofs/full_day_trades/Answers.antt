@@ -1,5 +1,5 @@
 -- `full_day::full_day_trades` meets its contract.
-use Rattle.std.proofs.Common.{◌≡◌, ℕ, ◌-◌, ◌*◌, ◌%◌, ◌^◌, ◌≤◌, refl, ap, ◌∙◌, arith, rules}
+use Rattle.std.proofs.Common.{◌≡◌, ℕ, ◌*◌, ◌%◌, ◌^◌, ap, ◌∙◌, arith}
 use Rattle.terms.specs.Bounds.{series_room, blotter_room}
 use Rattle.book.specs.declared.state.Book.{Book}
 use Rattle.full_day.specs.Day as rule

@@ -1,8 +1,5 @@
-use Rattle.std.proofs.Common.{◌≡◌, ℕ, ◌-◌, ◌*◌, ◌%◌, ◌^◌, ◌≤◌, refl, ap, ◌∙◌, arith, rules}
-use Rattle.terms.specs.Bounds.{series_room, blotter_room}
-use Rattle.book.specs.declared.state.Book.{Book}
+use Rattle.std.proofs.Common.{◌≡◌, ◌-◌, ◌*◌, ◌%◌, ◌^◌, ◌≤◌}
 use Rattle.full_day.specs.Day as rule
-use Rattle.full_day.proofs.Counting.{none, one_more}
 use Rattle.full_day.proofs.full_day_trades.Given as goal
 
 abbrev pub invariant-loop-n : goal.invariant-loop-n

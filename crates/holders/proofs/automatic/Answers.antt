@@ -1,5 +1,4 @@
 use borrow.Author.Tests.{eq-eqb, ne_eqb}
-use borrow.Author.Rules.{rules}
 use mathlib.Core.Path.{refl, sym, ◌∙◌}
 use Rattle.choice.proofs.Chain.{hit, past}
 use Rattle.exercise.specs.Exercise.{automatic}

@@ -1,5 +1,4 @@
 -- `holders::exercised` meets its contract. Assumes nothing.
-use borrow.Author.Rules.{rules}
 use mathlib.Core.Path.{◌≡◌, refl, ap, ap₂, ◌∙◌}
 use Prim.Native.Nat.{min, max}
 use mir.Facts.{to_z-of_z}

@@ -1,17 +1,15 @@
 -- `holders::exercised_by_place` meets its contract: the places passed have their numbers. Assumes nothing.
 use borrow.Author.Rules.{rules}
 use mathlib.Core.Path.{refl, ap, ◌∙◌}
-use Prim.Native.Nat.{◌≤◌, ◌-◌}
 use native.Mathlib.Omega.{arith}
 use lib.IntN.{ℤ}
 use mir.Syntax.{w32}
 use mir.Val.{SFits}
 use mir.Facts.{to_z-of_z}
 use Rattle.integer.specs.Table.{at}
-use Rattle.integer.proofs.Table.{Filled, filled_start, filled_next, filled_all}
-use Rattle.places.specs.Places.{places, amount, flag}
+use Rattle.integer.proofs.Table.{filled_start, filled_next, filled_all}
+use Rattle.places.specs.Places.{amount, flag}
 use Rattle.exercise.specs.Exercise.{exercised}
-use Rattle.exercise.specs.Evening.{exercised_at}
 use Rattle.holders.proofs.exercised_by_place.Goals as goal
 
 pub loop-place-init : goal.loop-place-init

@@ -1,4 +1,3 @@
-use borrow.Author.Rules.{rules}
 use native.Mathlib.Omega.{arith}
 use Rattle.exercise.specs.Exercise.{half}
 use Rattle.holders.proofs.half.Goals as goal

@@ -1,4 +1,3 @@
-use borrow.Author.Rules.{rules}
 use Rattle.exercise.specs.Exercise.{in_the_money}
 use Rattle.holders.proofs.in_the_money.Goals as goal
 

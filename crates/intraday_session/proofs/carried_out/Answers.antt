@@ -2,7 +2,7 @@
 use mathlib.Core.Path.{◌≡◌, refl, ap, ◌∙◌}
 use mathlib.Core.Bool.{true}
 use mathlib.Core.List.{List}
-use Prim.Native.Nat.{ℕ, ◌-◌, ◌<◌}
+use Prim.Native.Nat.{ℕ, ◌<◌}
 use native.Mathlib.Omega.{arith}
 use lib.IntN.{◌+ℤ◌}
 use lib.ListN.{get_or}
@@ -19,8 +19,7 @@ use Rattle.book.specs.declared.state.Book.{Book}
 use Rattle.book.proofs.Money.{intraday_within, cash_bounded}
 use Rattle.book.proofs.SessionMoney.{paid_for, unmarked_limited, intraday_is, intraday_bounded, intraday_in_all, paid_into_lem}
 use Rattle.book.proofs.Trades.{trades_within, coefficients_within}
-use Rattle.session_margin.proofs.EachSeries.{Passed, passed_none, passed_room, passed_here, passed_costs, passed_left, passed_next, passed_series, passed_margin}
-use borrow.Author.Rules.{rules}
+use Rattle.session_margin.proofs.EachSeries.{passed_none, passed_room, passed_here, passed_costs, passed_left, passed_next, passed_series, passed_margin}
 use Rattle.intraday_session.proofs.carried_out.Goals.{After-in_all-money, After-loop-i, After-pay-paid, In-loop-i, Start}
 use Rattle.intraday_session.proofs.carried_out.Goals as goal
 

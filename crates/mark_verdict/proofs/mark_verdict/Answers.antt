@@ -2,7 +2,6 @@
 use mathlib.Core.Path.{refl}
 use borrow.Author.Tests.{le-ltb, lt-leb}
 use Rattle.choice.proofs.Chain.{hit, past, tests}
-use borrow.Author.Rules.{rules}
 use Rattle.mark_verdict.proofs.mark_verdict.Goals as goal
 
 pub returns-then-today-gt-FINAL_DAY : goal.returns-then-today-gt-FINAL_DAY

@@ -1,9 +1,7 @@
 -- `missing_mark::first_unmarked` meets its contract: what the search from i on finds is what the whole search finds.
-use borrow.Author.Rules.{rules}
-use mathlib.Core.Path.{◌≡◌, sym, ◌∙◌}
-use Prim.Native.Nat.{◌-◌, ◌≤◌, ◌<◌}
+use mathlib.Core.Path.{sym, ◌∙◌}
+use Prim.Native.Nat.{◌<◌}
 use native.Mathlib.Omega.{arith}
-use Rattle.book.specs.Verdicts.{first_from}
 use Rattle.book.proofs.Search.{unmarked_here, marked_here, expired_here, search_ends, search_starts}
 use Rattle.missing_mark.proofs.first_unmarked.Goals.{then-book-s+else-not-s, else-book-s}
 use Rattle.missing_mark.proofs.first_unmarked.Goals as goal
@@ -24,7 +22,7 @@ pub loop-i-preserved : goal.loop-i-preserved
 loop-i-preserved c =
     let at : c.loop-i.i < c.args.book.listed = c.if-book-i.false in
     elim c.if-book-s.branch [
-      then-book-s+else-not-s w ↦ (omega (arith, at), c.loop-i.invariant.1 ∙ marked_here c.args.book c.loop-i.i at w.if-book-s.true w.if-not-s.false)
+      | then-book-s+else-not-s w ↦ (omega (arith, at), c.loop-i.invariant.1 ∙ marked_here c.args.book c.loop-i.i at w.if-book-s.true w.if-not-s.false)
       | else-book-s w ↦ (omega (arith, at), c.loop-i.invariant.1 ∙ expired_here c.args.book c.loop-i.i at w.if-book-s.false)
     ]
 

@@ -1,10 +1,6 @@
-use borrow.Author.Rules.{rules}
-use mathlib.Core.Path.{◌≡◌, sym, ◌∙◌}
-use mathlib.Core.Logic.{⊎_elim}
+use mathlib.Core.Path.{◌≡◌}
 use Prim.Native.Nat.{◌-◌, ◌≤◌}
-use native.Mathlib.Omega.{arith}
 use Rattle.book.specs.Verdicts.{first_from}
-use Rattle.book.proofs.Search.{unmarked_here, marked_here, expired_here, search_ends, search_starts}
 use Rattle.missing_mark.proofs.first_unmarked.Given as goal
 
 abbrev pub invariant-loop-i : goal.invariant-loop-i

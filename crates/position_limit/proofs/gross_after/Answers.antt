@@ -1,8 +1,6 @@
 -- `position_limit::gross_after` meets its contract: the sum so far is that of the sections passed.
-use borrow.Author.Rules.{rules}
 use mathlib.Core.Path.{◌≡◌, sym, ap, subst, ◌∙◌}
-use mathlib.Core.List.{List}
-use Prim.Native.Nat.{ℕ, ◌+◌, ◌*◌, ◌-◌, ◌≤◌}
+use Prim.Native.Nat.{ℕ, ◌≤◌}
 use native.Mathlib.Omega.{arith}
 use lib.Dec.{eqb}
 use lib.IntN.{ℤ, pos, nat_abs, ◌+ℤ◌}
@@ -11,10 +9,9 @@ use mir.Val.{to_z, of_z}
 use Rattle.choice.specs.Choice.{choose}
 use Rattle.integer.specs.Bounds.{Within}
 use Rattle.integer.proofs.Machine.{Reads, same, any, plus, local, fits}
-use Rattle.integer.specs.Sum.{sumℕ}
 use Rattle.integer.proofs.NatSum.{sumℕ_zero, sumℕ_next}
 use Rattle.integer.specs.Table.{at}
-use Rattle.places.specs.Places.{sections, place_in}
+use Rattle.places.specs.Places.{sections}
 use Rattle.terms.specs.Bounds.{max_quantity}
 use Rattle.series.proofs.Limit.{gross_after_sum}
 use Rattle.book.proofs.Revaluation.{choice_small}

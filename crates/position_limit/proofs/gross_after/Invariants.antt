@@ -1,22 +1,12 @@
-use borrow.Author.Rules.{rules}
-use mathlib.Core.Path.{◌≡◌, sym, ap, subst, ◌∙◌}
+use mathlib.Core.Path.{◌≡◌}
 use mathlib.Core.List.{List}
-use Prim.Native.Nat.{ℕ, ◌+◌, ◌*◌, ◌-◌, ◌≤◌}
-use native.Mathlib.Omega.{arith}
+use Prim.Native.Nat.{ℕ, ◌*◌, ◌-◌, ◌≤◌}
 use lib.Dec.{eqb}
 use lib.IntN.{ℤ, pos, nat_abs, ◌+ℤ◌}
-use mir.Syntax.{w32, w64}
-use mir.Val.{to_z, of_z}
 use Rattle.choice.specs.Choice.{choose}
-use Rattle.integer.specs.Bounds.{Within}
-use Rattle.integer.proofs.Machine.{Reads, same, any, plus, local, fits}
 use Rattle.integer.specs.Sum.{sumℕ}
-use Rattle.integer.proofs.NatSum.{sumℕ_zero, sumℕ_next}
 use Rattle.integer.specs.Table.{at}
 use Rattle.places.specs.Places.{sections, place_in}
-use Rattle.terms.specs.Bounds.{max_quantity}
-use Rattle.series.proofs.Limit.{gross_after_sum}
-use Rattle.book.proofs.Revaluation.{choice_small}
 use Rattle.position_limit.proofs.gross_after.Given as goal
 
 -- a position of 32 bits, once a trade has changed it

@@ -1,5 +1,4 @@
 -- `position_limit::limit` meets its contract: the tests are those of the rule, in its order.
-use borrow.Author.Rules.{rules}
 use mathlib.Core.Path.{◌≡◌, refl, sym, subst, ◌∙◌}
 use lib.IntN.{pos, neg_ℤ, +ℤ_idl}
 use mir.Syntax.{w64}

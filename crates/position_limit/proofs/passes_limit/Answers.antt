@@ -1,5 +1,4 @@
 -- `position_limit::passes_limit` meets its contract.
-use borrow.Author.Rules.{rules}
 use mathlib.Core.Path.{refl}
 use mir.Syntax.{w64}
 use Rattle.integer.proofs.Machine.{any}

@@ -1,13 +1,8 @@
 -- `positions_apart::put_back` meets its contract: the series passed have their positions back.
 use borrow.Author.Rules.{rules}
 use mathlib.Core.Path.{refl}
-use Prim.Native.Nat.{◌-◌, ◌≤◌}
 use native.Mathlib.Omega.{arith}
-use lib.ListN.{get_or}
-use Rattle.integer.proofs.Table.{Updated, updated_start, updated_next, updated_rest}
-use Rattle.terms.specs.Bounds.{series_room}
-use Rattle.series.specs.Series.{with_positions}
-use Rattle.book.specs.Apart.{held_at}
+use Rattle.integer.proofs.Table.{updated_start, updated_next, updated_rest}
 use Rattle.book.specs.State.{no_series}
 use Rattle.positions_apart.proofs.put_back.Goals as goal
 

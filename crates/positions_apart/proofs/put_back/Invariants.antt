@@ -1,9 +1,6 @@
-use borrow.Author.Rules.{rules}
-use mathlib.Core.Path.{refl}
 use Prim.Native.Nat.{◌-◌, ◌≤◌}
-use native.Mathlib.Omega.{arith}
 use lib.ListN.{get_or}
-use Rattle.integer.proofs.Table.{Updated, updated_start, updated_next, updated_rest}
+use Rattle.integer.proofs.Table.{Updated}
 use Rattle.terms.specs.Bounds.{series_room}
 use Rattle.series.specs.Series.{with_positions}
 use Rattle.book.specs.Apart.{held_at}

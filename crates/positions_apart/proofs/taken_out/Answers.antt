@@ -1,14 +1,7 @@
 -- `positions_apart::taken_out` meets its contract: the series passed have their positions in the array.
-use borrow.Author.Rules.{rules}
 use mathlib.Core.Path.{refl}
-use mathlib.Core.List.{[]}
-use Prim.Native.Nat.{◌-◌, ◌≤◌}
 use native.Mathlib.Omega.{arith}
-use lib.ListN.{get_or}
-use Rattle.integer.proofs.Table.{Filled, filled_start, filled_next, filled_all}
-use Rattle.terms.specs.Bounds.{series_room}
-use Rattle.book.specs.State.{no_series}
-use Rattle.book.specs.declared.state.Held.{Held}
+use Rattle.integer.proofs.Table.{filled_start, filled_next, filled_all}
 use Rattle.positions_apart.proofs.taken_out.Goals as goal
 use Rattle.positions_apart.proofs.taken_out.Invariants.{none}
 

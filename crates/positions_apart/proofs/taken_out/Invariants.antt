@@ -1,10 +1,7 @@
-use borrow.Author.Rules.{rules}
-use mathlib.Core.Path.{refl}
 use mathlib.Core.List.{[]}
 use Prim.Native.Nat.{◌-◌, ◌≤◌}
-use native.Mathlib.Omega.{arith}
 use lib.ListN.{get_or}
-use Rattle.integer.proofs.Table.{Filled, filled_start, filled_next, filled_all}
+use Rattle.integer.proofs.Table.{Filled}
 use Rattle.terms.specs.Bounds.{series_room}
 use Rattle.book.specs.State.{no_series}
 use Rattle.book.specs.declared.state.Held.{Held}

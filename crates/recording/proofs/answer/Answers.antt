@@ -1,7 +1,5 @@
 -- `recording::answer` meets its contract.
 use mathlib.Core.Path.{refl}
-use borrow.Author.Rules.{rules}
-use Rattle.recording.proofs.Others.{carried_out_lem}
 use Rattle.recording.proofs.answer.Goals as goal
 
 pub returns-in-Refused : goal.returns-in-Refused

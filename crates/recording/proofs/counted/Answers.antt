@@ -1,7 +1,5 @@
 -- `recording::counted` meets its contract.
 use mathlib.Core.Path.{refl}
-use borrow.Author.Rules.{rules}
-use Rattle.recording.proofs.Others.{not_counted}
 use Rattle.recording.proofs.counted.Goals as goal
 
 pub returns-in-Traded : goal.returns-in-Traded

@@ -1,7 +1,6 @@
 -- `recording::next_record` meets its contract.
 use Rattle.choice.proofs.Chain.{hit, past, tests}
 use Rattle.book.specs.Effects.{next_record}
-use borrow.Author.Rules.{rules}
 use Rattle.recording.proofs.next_record.Goals as goal
 
 pub returns-then-trades-lt-BLOTTER : goal.returns-then-trades-lt-BLOTTER

@@ -2,7 +2,6 @@
 use mathlib.Core.Path.{ap, ◌∙◌}
 use Rattle.choice.proofs.Chain.{hit, past, tests}
 use Rattle.book.specs.Step as rule
-use borrow.Author.Rules.{rules}
 use Rattle.refusing.proofs.no_such_series.Goals as goal
 
 pub returns-then-book-gt-FINAL_DAY : goal.returns-then-book-gt-FINAL_DAY

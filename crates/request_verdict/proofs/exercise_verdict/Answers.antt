@@ -6,7 +6,6 @@ use Rattle.exercise.specs.Exercise.{held}
 use Rattle.integer.proofs.Machine.{any}
 use Rattle.integer.specs.Table.{at}
 use Rattle.places.specs.Places.{place_in}
-use borrow.Author.Rules.{rules}
 use Rattle.request_verdict.proofs.exercise_verdict.Goals.{After-held, Start}
 use Rattle.request_verdict.proofs.exercise_verdict.Goals as goal
 

@@ -1,6 +1,5 @@
 -- `request_verdict::too_early` meets its contract.
 use Rattle.series.specs.Conditions.{too_early}
-use borrow.Author.Rules.{rules}
 use Rattle.request_verdict.proofs.too_early.Goals as goal
 
 pub returns-in-American : goal.returns-in-American

@@ -1,10 +1,8 @@
 -- `session_margin::coefficients` meets its contract: the loop fills the coefficients series by series.
 use borrow.Author.Rules.{rules}
 use mathlib.Core.Path.{refl}
-use Prim.Native.Nat.{◌-◌, ◌≤◌}
 use native.Mathlib.Omega.{arith}
-use Rattle.integer.proofs.Table.{Filled, filled_start, filled_next, filled_all}
-use Rattle.book.specs.State.{series_at}
+use Rattle.integer.proofs.Table.{filled_start, filled_next, filled_all}
 use Rattle.session_margin.proofs.coefficients.Goals as goal
 
 pub loop-i-init : goal.loop-i-init

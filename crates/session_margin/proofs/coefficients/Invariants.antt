@@ -1,8 +1,5 @@
-use borrow.Author.Rules.{rules}
-use mathlib.Core.Path.{refl}
 use Prim.Native.Nat.{◌-◌, ◌≤◌}
-use native.Mathlib.Omega.{arith}
-use Rattle.integer.proofs.Table.{Filled, filled_start, filled_next, filled_all}
+use Rattle.integer.proofs.Table.{Filled}
 use Rattle.book.specs.State.{series_at}
 use Rattle.session_margin.proofs.coefficients.Given as goal
 

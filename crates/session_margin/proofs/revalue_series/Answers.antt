@@ -4,7 +4,6 @@ use mathlib.Core.Bool.{not}
 use borrow.Author.Tests.{lt-ltb, le-ltb}
 use Rattle.choice.proofs.Chain.{hit, past}
 use Rattle.margin.proofs.Bounds.{option_value_bound}
-use borrow.Author.Rules.{rules}
 use Rattle.session_margin.proofs.revalue_series.Goals as goal
 
 pub returns-then-s-day : goal.returns-then-s-day

@@ -2,7 +2,6 @@
 use Rattle.choice.proofs.Chain.{hit, past, tests}
 use Rattle.book.specs.declared.state.Event.TheVariants.{Intraday}
 use Rattle.book.proofs.Decided.{by_refusal, by_allowance, mark_missing, none_missing}
-use borrow.Author.Rules.{rules}
 use Rattle.sessions.proofs.intraday.Goals as goal
 
 pub returns-then-book-gt-FINAL_DAY : goal.returns-then-book-gt-FINAL_DAY

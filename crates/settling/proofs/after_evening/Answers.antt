@@ -3,7 +3,6 @@ use mathlib.Core.Path.{refl, ap}
 use mathlib.Core.Bool.{not}
 use borrow.Author.Tests.{lt-ltb, le-ltb}
 use Rattle.choice.proofs.Chain.{hit, past}
-use borrow.Author.Rules.{rules}
 use Rattle.settling.proofs.after_evening.Goals as goal
 
 pub returns-then-s-day : goal.returns-then-s-day

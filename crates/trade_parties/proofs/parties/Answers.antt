@@ -1,6 +1,5 @@
 -- `trade_parties::parties` meets its contract: the tests are those of the rule, in its order.
 use Rattle.choice.proofs.Chain.{hit, past, tests}
-use borrow.Author.Rules.{rules}
 use Rattle.trade_parties.proofs.parties.Goals as goal
 
 pub returns-then-deal-ge-ACCOUNTS : goal.returns-then-deal-ge-ACCOUNTS

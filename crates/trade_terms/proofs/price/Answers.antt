@@ -1,6 +1,5 @@
 -- `trade_terms::price` meets its contract: the tests are those of the rule, in its order.
 use Rattle.choice.proofs.Chain.{hit, past, tests}
-use borrow.Author.Rules.{rules}
 use Rattle.trade_terms.proofs.price.Goals as goal
 
 pub returns-then-deal-lt1 : goal.returns-then-deal-lt1

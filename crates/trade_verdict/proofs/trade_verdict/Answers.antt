@@ -7,10 +7,9 @@ use Rattle.series.specs.Series.{past_last}
 use Rattle.series.specs.declared.refusal.Refusal.TheVariants.{Finished, UnknownSeries, Expired}
 use Rattle.series.specs.declared.refusal.Verdict.{Verdict}
 use Rattle.series.specs.declared.refusal.Verdict.TheVariants.{Allowed, Refused}
-use Rattle.book.specs.Verdicts.{finished, unlisted, and_then, parties_verdict, price_verdict, limit_verdict}
+use Rattle.book.specs.Verdicts.{finished, unlisted, parties_verdict, price_verdict, limit_verdict}
 use Rattle.book.proofs.Allowed.{parties_allowed, price_allowed}
 use Rattle.book.proofs.Decided.{verdict_is, group_refused, group_passed}
-use borrow.Author.Rules.{rules}
 use Rattle.trade_verdict.proofs.trade_verdict.Goals.{Else-listing-today, In_default, In_default-limit, In_default-price}
 use Rattle.trade_verdict.proofs.trade_verdict.Goals as goal
 

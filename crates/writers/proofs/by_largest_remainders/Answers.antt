@@ -1,5 +1,4 @@
 -- `writers::by_largest_remainders` meets its contract: after each turn one place more is served, in the order of their ranks. Assumes nothing.
-use borrow.Author.Rules.{rules}
 use borrow.Author.Tests.{le-ltb}
 use mathlib.Core.Path.{◌≡◌, sym, ap, ◌∙◌, subst}
 use mathlib.Core.List.{List}
@@ -85,7 +84,7 @@ loop-place-preserved c =
     let to : (m : ℕ) → c.if-rest-largest.largest ≡ m → law.Largest (l.place + 1) r m → law.Largest (l.place + 1) r c.if-rest-largest.largest = λ m e. subst (law.Largest (l.place + 1) r) (sym e) in (
       omega arith,
       elim c.if-rest-largest.branch [
-        then-rest-largest w ↦ to l.place w.largest-is (law.largest_new l.place r l.largest l.invariant.1 w.if-rest-largest.true)
+        | then-rest-largest w ↦ to l.place w.largest-is (law.largest_new l.place r l.largest l.invariant.1 w.if-rest-largest.true)
         | else-rest-largest w ↦ to l.largest w.largest-is (law.largest_kept l.place r l.largest l.invariant.1 w.if-rest-largest.false)
       ],
     )

@@ -1,14 +1,11 @@
 -- `writers::shares` meets its contract: the places passed have their parts. Assumes nothing.
-use borrow.Author.Rules.{rules}
 use mathlib.Core.Path.{◌≡◌, refl, sym, ap, ◌∙◌}
-use mathlib.Core.List.{List}
-use Prim.Native.Nat.{ℕ, ◌≤◌, ◌-◌, ◌*◌, ◌/◌, ◌%◌}
+use Prim.Native.Nat.{ℕ, ◌≤◌, ◌*◌, ◌/◌, ◌%◌}
 use native.Mathlib.Nat.{mul-le-mul, mul-le-mul_right, mod-lt, div-le_of_le-mul, mul-zero, zero-div, zero-mod}
 use native.Mathlib.Omega.{arith}
-use lib.ListN.{get_or, replicate, get_or-replicate}
-use Rattle.integer.proofs.Table.{Updated, updated_start, updated_next, updated_skip, updated_rest}
-use Rattle.places.specs.Places.{places, amount}
-use Rattle.exercise.specs.Assignment.{whole_part, remainder}
+use lib.ListN.{get_or, get_or-replicate}
+use Rattle.integer.proofs.Table.{updated_start, updated_next, updated_skip, updated_rest}
+use Rattle.places.specs.Places.{places}
 use Rattle.writers.proofs.shares.Goals.{After-wide, then-shorts-place-ne0, else-shorts-place-ne0}
 use Rattle.writers.proofs.shares.Goals as goal
 use Rattle.writers.proofs.shares.Invariants.{none}
@@ -49,7 +46,7 @@ loop-place-preserved c =
     let a = l.args in
     let zero : get_or none l.loop-place.place 0 ≡ 0 = get_or-replicate places l.loop-place.place 0 0 c.loop-place-test.true in
     elim c.if-shorts-place-ne0.branch [
-      then-shorts-place-ne0 w ↦ (
+      | then-shorts-place-ne0 w ↦ (
         omega arith,
         rw w.whole-is (updated_next l.loop-place.invariant.1 (omega arith) _ (ap (λ (x : ℕ). a.exercised * x / a.interest) w.wide.ensures.0)),
         rw w.rest-is (updated_next l.loop-place.invariant.2 (omega arith) _ (ap (λ (x : ℕ). a.exercised * x % a.interest) w.wide.ensures.0)),

@@ -1,12 +1,7 @@
-use borrow.Author.Rules.{rules}
-use mathlib.Core.Path.{◌≡◌, refl, sym, ap, ◌∙◌}
-use mathlib.Core.Logic.{⊎_elim}
 use mathlib.Core.List.{List}
-use Prim.Native.Nat.{ℕ, ◌≤◌, ◌-◌, ◌*◌, ◌/◌, ◌%◌}
-use native.Mathlib.Nat.{mul-le-mul, mul-le-mul_right, mod-lt, div-le_of_le-mul, mul-zero, zero-div, zero-mod}
-use native.Mathlib.Omega.{arith}
-use lib.ListN.{get_or, replicate, get_or-replicate}
-use Rattle.integer.proofs.Table.{Updated, updated_start, updated_next, updated_skip, updated_rest}
+use Prim.Native.Nat.{ℕ, ◌≤◌, ◌-◌}
+use lib.ListN.{replicate}
+use Rattle.integer.proofs.Table.{Updated}
 use Rattle.places.specs.Places.{places, amount}
 use Rattle.exercise.specs.Assignment.{whole_part, remainder}
 use Rattle.writers.proofs.shares.Given as goal

@@ -1,12 +1,6 @@
-use borrow.Author.Rules.{rules}
-use mathlib.Core.Path.{refl, ap, ◌∙◌}
 use Prim.Native.Nat.{◌≤◌, ◌-◌}
-use native.Mathlib.Omega.{arith}
-use mir.Syntax.{w32}
-use mir.Val.{SFits}
-use mir.Facts.{to_z-of_z}
 use Rattle.integer.specs.Table.{at}
-use Rattle.integer.proofs.Table.{Filled, filled_start, filled_next, filled_all}
+use Rattle.integer.proofs.Table.{Filled}
 use Rattle.places.specs.Places.{places}
 use Rattle.exercise.specs.Exercise.{short}
 use Rattle.writers.proofs.short_by_place.Given as goal

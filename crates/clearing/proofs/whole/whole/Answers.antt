@@ -19,7 +19,6 @@ use Rattle.book.specs.declared.state.Event.TheVariants.{List, Trade, Exercise, D
 use Rattle.book.specs.declared.state.Step.{Step}
 use Rattle.book.proofs.Decided.{by_refusal}
 use Rattle.book.proofs.Effects.{no_such_series}
-use borrow.Author.Rules.{rules}
 use Rattle.clearing.proofs.whole.whole.Goals as goal
 
 -- what an arm gave is the step of the event that it matched

@@ -1,4 +1,3 @@
-use borrow.Author.Rules.{rules}
 use Rattle.listing.proofs.change.new_series.Goals as goal
 
 pub returns : goal.returns

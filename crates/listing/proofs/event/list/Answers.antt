@@ -7,7 +7,6 @@ use Rattle.book.specs.declared.state.Answer.TheVariants.{Listed}
 use Rattle.book.specs.declared.state.Event.TheVariants.{List}
 use Rattle.book.proofs.Allowed.{ListAllowed, list_allowed}
 use Rattle.book.proofs.Decided.{by_refusal, by_allowance, verdict_is}
-use borrow.Author.Rules.{rules}
 use Rattle.listing.proofs.event.list.Goals.{In_default}
 use Rattle.listing.proofs.event.list.Goals as goal
 

@@ -1,6 +1,5 @@
 -- `listing::verdict::list_verdict` meets its contract: the tests are those of the rule, in its order.
 use Rattle.choice.proofs.Chain.{hit, past, tests}
-use borrow.Author.Rules.{rules}
 use Rattle.listing.proofs.verdict.list_verdict.Goals as goal
 
 pub returns-then-today-gt-FINAL_DAY : goal.returns-then-today-gt-FINAL_DAY

@@ -1,4 +1,3 @@
-use borrow.Author.Rules.{rules}
 use Rattle.marking.proofs.change.mark.Goals as goal
 
 pub returns : goal.returns

@@ -1,4 +1,3 @@
-use borrow.Author.Rules.{rules}
 use Rattle.marking.proofs.change.unmark.Goals as goal
 
 pub returns : goal.returns

@@ -4,7 +4,6 @@ use Rattle.book.specs.declared.state.Effect.TheVariants.{Marked}
 use Rattle.book.proofs.Allowed.{MarkAllowed, mark_allowed}
 use Rattle.book.proofs.Effects.{effect_refused, effect_allowed}
 use Rattle.book.proofs.Decided.{verdict_is}
-use borrow.Author.Rules.{rules}
 use Rattle.marking.proofs.effect.mark.Goals.{In_default, Start}
 use Rattle.marking.proofs.effect.mark.Goals as goal
 

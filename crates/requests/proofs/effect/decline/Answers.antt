@@ -2,7 +2,6 @@
 use mathlib.Core.Path.{refl}
 use Rattle.book.proofs.Effects.{effect_refused, effect_allowed}
 use Rattle.book.proofs.Decided.{verdict_is}
-use borrow.Author.Rules.{rules}
 use Rattle.requests.proofs.effect.decline.Goals as goal
 
 pub returns-in-Refused : goal.returns-in-Refused

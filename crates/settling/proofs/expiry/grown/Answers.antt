@@ -1,13 +1,10 @@
 -- `settling::expiry::grown` meets its contract: the loop fills the sums place by place.
 use borrow.Author.Rules.{rules}
-use Prim.Native.Nat.{◌-◌, ◌≤◌}
 use native.Mathlib.Omega.{arith}
-use lib.IntN.{pos, ◌+ℤ◌}
+use lib.IntN.{pos}
 use mir.Syntax.{w32}
 use Rattle.integer.proofs.Machine.{fits}
-use Rattle.integer.specs.Table.{at}
-use Rattle.integer.proofs.Table.{Filled, filled_start, filled_all}
-use Rattle.places.specs.Places.{places}
+use Rattle.integer.proofs.Table.{filled_start, filled_all}
 use Rattle.margin.proofs.Combined.{sum_at, sum_next}
 use Rattle.settling.proofs.expiry.grown.Goals as goal
 

@@ -8,7 +8,6 @@ use Rattle.exercise.specs.declared.types.Outcome.{Outcome}
 use Rattle.integer.proofs.Bounds.{bounded_le}
 use Rattle.series.specs.Series.{with_mark, with_requests, with_evening}
 use Rattle.settling.proofs.Settling.{closed, futures_grown, new_futures_bounded}
-use borrow.Author.Rules.{rules}
 use Rattle.settling.proofs.expiry.settle.Goals.{After-evening-outcome, Start}
 use Rattle.settling.proofs.expiry.settle.Goals as goal
 

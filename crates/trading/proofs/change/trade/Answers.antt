@@ -8,7 +8,6 @@ use mir.Syntax.{w32}
 use Rattle.integer.proofs.Machine.{Reads, nat, fits, more, fewer, moved_is}
 use Rattle.integer.specs.Table.{at}
 use Rattle.places.proofs.Places.{other_account}
-use borrow.Author.Rules.{rules}
 use Rattle.trading.proofs.change.trade.Goals.{After-place_in-y, Start}
 use Rattle.trading.proofs.change.trade.Goals as goal
 

@@ -8,7 +8,6 @@ use Rattle.book.specs.declared.state.Effect.TheVariants.{Traded}
 use Rattle.book.proofs.Allowed.{TradeAllowed, trade_allowed}
 use Rattle.book.proofs.Effects.{effect_refused, effect_allowed}
 use Rattle.book.proofs.Decided.{verdict_is}
-use borrow.Author.Rules.{rules}
 use Rattle.trading.proofs.effect.trade.Goals.{In_default, Start}
 use Rattle.trading.proofs.effect.trade.Goals as goal
 

@@ -1,11 +1,10 @@
 -- `writers::sum::total` meets its contract: the sum so far is that of the places passed. Assumes nothing.
-use borrow.Author.Rules.{rules}
-use mathlib.Core.Path.{◌≡◌, sym, ap, ◌∙◌}
-use Prim.Native.Nat.{ℕ, ◌≤◌, ◌-◌, ◌*◌}
+use mathlib.Core.Path.{sym, ap, ◌∙◌}
+use Prim.Native.Nat.{ℕ}
 use native.Mathlib.Omega.{arith}
 use Rattle.integer.specs.Sum.{sumℕ}
 use Rattle.integer.proofs.NatSum.{sumℕ_zero, sumℕ_next}
-use Rattle.places.specs.Places.{places, amount}
+use Rattle.places.specs.Places.{amount}
 use Rattle.writers.proofs.sum.total.Goals as goal
 
 pub loop-place-init : goal.loop-place-init

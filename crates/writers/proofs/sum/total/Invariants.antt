@@ -1,9 +1,6 @@
-use borrow.Author.Rules.{rules}
-use mathlib.Core.Path.{◌≡◌, sym, ap, ◌∙◌}
-use Prim.Native.Nat.{ℕ, ◌≤◌, ◌-◌, ◌*◌}
-use native.Mathlib.Omega.{arith}
+use mathlib.Core.Path.{◌≡◌}
+use Prim.Native.Nat.{◌≤◌, ◌-◌, ◌*◌}
 use Rattle.integer.specs.Sum.{sumℕ}
-use Rattle.integer.proofs.NatSum.{sumℕ_zero, sumℕ_next}
 use Rattle.places.specs.Places.{places, amount}
 use Rattle.writers.proofs.sum.total.Given as goal
 
