@@ -84,8 +84,7 @@ fn after(mut book: Book, from: usize, count: usize) -> Book
 }
 
 // The day's trades, on so many days; answers how many were carried out.
-#[unsafe(no_mangle)]
-pub extern "C" fn full_day_trades(days: u64) -> u64
+pub fn full_day_trades(days: u64) -> u64
     ensures { result ≡ (days * (rule.traded).trades) % 2 ^ 64 }
 {
     let listed = after(clearing::empty(), 0, SERIES);
@@ -100,8 +99,7 @@ pub extern "C" fn full_day_trades(days: u64) -> u64
 }
 
 // The evening after those trades, on so many days; answers how many were carried out.
-#[unsafe(no_mangle)]
-pub extern "C" fn full_day_evenings(days: u64) -> u64
+pub fn full_day_evenings(days: u64) -> u64
     ensures { result ≡ (days * (rule.next_day).day) % 2 ^ 64 }
 {
     let full = after(clearing::empty(), 0, MARKS + SERIES);
