@@ -9,7 +9,7 @@ ghost use Rattle.stream.specs.Output.{Ready, TurnedBy};
 use buffers::keep;
 use rows_in_place::whole_rows;
 use std::io::Write;
-use stream::types::{Replay, Run};
+use stream::types::Run;
 
 // The rows that end in the buffer, whose input goes up to a place: all of it as one piece.
 pub fn pass<W: Write>(
@@ -17,19 +17,13 @@ pub fn pass<W: Write>(
     calendar: &[u64],
     buf: &mut [u8],
     out: &mut [u8],
-    replay: Replay,
+    run: &mut Run,
     end: usize,
-) -> Run
-    requires { (Ready replay out.old) × (end ≤ length buf.old) }
-    ensures { TurnedBy (dates_of calendar.now) (piece (take end buf.old)) [] replay out.old result buf.new out.new }
+)
+    requires { (Ready run.old.replay out.old) × (end ≤ length buf.old) }
+    ensures { TurnedBy (dates_of calendar.now) (piece (take end buf.old)) [] run.old.replay out.old run.new buf.new out.new }
 {
-    let passed = whole_rows(output, calendar, &buf[..end], out, replay);
-    let left = keep(buf, passed.from, end);
-    let next = passed.replay;
-    let intact = next.intact;
-    Run {
-        replay: next,
-        have: left,
-        going: intact,
-    }
+    let start = whole_rows(output, calendar, &buf[..end], out, &mut run.replay);
+    run.have = keep(buf, start, end);
+    run.going = run.replay.waiting.intact;
 }

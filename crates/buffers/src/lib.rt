@@ -8,10 +8,10 @@ ghost use Rattle.stream.specs.Input.{InRoom};
 ghost use Rattle.stream.specs.Output.{output_room, waiting_room};
 ghost use Rattle.stream.specs.Parts.{Flushed};
 
-use book::state::{Answer, Book};
+use book::state::Answer;
 use std::io::{Read, Write};
 use stream::bounds::WAITING_ROOM;
-use stream::types::{Input, Passed, Replay, Waiting};
+use stream::types::{Input, Waiting};
 
 // Reads of a file behind what is kept, where there is room: a read of no bytes is the file's end.
 pub fn fill<R: Read>(input: &mut R, buf: &mut [u8], have: usize) -> Input
@@ -36,43 +36,18 @@ pub fn keep(buf: &mut [u8], from: usize, end: usize) -> usize
     row_cut::move_down(&mut buf[..end], start)
 }
 
-// The replay up to a place of its buffer.
-pub fn up_to(book: Book, row: u64, at: usize, intact: bool, from: usize) -> Passed
-    ensures { result ≡ record { replay = record { book = book; row = row; at = at; intact = intact }; from = from } }
-{
-    let replay = Replay {
-        book: book,
-        row: row,
-        at: at,
-        intact: intact,
-    };
-    Passed {
-        replay: replay,
-        from: from,
-    }
-}
-
 // Room for the lines of one more row: where there is none, what waits is let go. It is written, unless a write has failed before.
-pub fn flushed<W: Write>(output: &mut W, out: &mut [u8], end: usize, intact: bool) -> Waiting
-    requires { end ≤ length out.old }
-    ensures { Flushed (take end out.old) intact result out.new }
+pub fn flush<W: Write>(output: &mut W, out: &mut [u8], waiting: &mut Waiting)
+    requires { waiting.old.at ≤ length out.old }
+    ensures { Flushed (take waiting.old.at out.old) waiting.old.intact waiting.new out.new }
 {
+    let end = waiting.at;
     if end <= WAITING_ROOM {
-        return Waiting {
-            at: end,
-            intact: intact,
-        };
+        return;
     }
-    if !intact {
-        return Waiting {
-            at: 0,
-            intact: false,
-        };
-    }
-    let written = output.write_all(&out[..end]).is_ok();
-    Waiting {
-        at: 0,
-        intact: written,
+    waiting.at = 0;
+    if waiting.intact {
+        waiting.intact = output.write_all(&out[..end]).is_ok();
     }
 }
 
@@ -80,16 +55,15 @@ pub fn flushed<W: Write>(output: &mut W, out: &mut [u8], end: usize, intact: boo
 pub fn put_answer<W: Write>(
     output: &mut W,
     out: &mut [u8],
-    at: usize,
+    waiting: &mut Waiting,
     row: u64,
     answer: Answer,
-    intact: bool,
-) -> Waiting
-    requires { (at ≤ waiting_room) × (output_room ≤ length out.old) }
-    ensures { Flushed (take at out.old ++ answer_of row answer) intact result out.new }
+)
+    requires { (waiting.old.at ≤ waiting_room) × (output_room ≤ length out.old) }
+    ensures { Flushed (take waiting.old.at out.old ++ answer_of row answer) waiting.old.intact waiting.new out.new }
 {
-    let end = row_lines::answered(out, at, row, answer);
-    flushed(output, out, end, intact)
+    waiting.at = row_lines::answered(out, waiting.at, row, answer);
+    flush(output, out, waiting);
 }
 
 // Where the calendar is refused, that stands in place of all rows.
@@ -97,9 +71,8 @@ pub fn without_rows(out: &mut [u8]) -> Waiting
     requires { output_room ≤ length out.old }
     ensures { (result.at ≤ waiting_room) × (take result.at out.new ≡ no_calendar) × (result.intact ≡ true) }
 {
-    let next = lines::no_calendar(out);
     Waiting {
-        at: next,
+        at: lines::no_calendar(out),
         intact: true,
     }
 }

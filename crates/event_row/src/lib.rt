@@ -8,79 +8,56 @@ ghost use Rattle.report.specs.Report.{is_session, row_room};
 ghost use Rattle.stream.specs.Parts.{EventPut};
 
 use answers::is_session;
-use book::state::{Book, Event};
+use book::state::Event;
 use stream::types::Replay;
 
 // An evening session, and all lines of its report.
-fn evening_row(out: &mut [u8], at: usize, intact: bool, row: u64, book: Book) -> Replay
-    requires { (Good book) × (at + row_room ≤ length out.old) }
-    ensures { EventPut row book Evening intact out.old at result out.new }
+fn evening_row(out: &mut [u8], replay: &mut Replay)
+    requires { (Good replay.old.book) × (replay.old.waiting.at + row_room ≤ length out.old) }
+    ensures { EventPut replay.old out.old Evening replay.new out.new }
 {
-    let step = sessions::evening(book);
-    let after = step.book;
-    let before = book.series;
-    let next = row_lines::report(out, at, row, before, step);
-    Replay {
-        book: after,
-        row: row,
-        at: next,
-        intact: intact,
-    }
+    let step = sessions::evening(replay.book);
+    replay.waiting.at = row_lines::report(
+        out,
+        replay.waiting.at,
+        replay.row,
+        replay.book.series,
+        step,
+    );
+    replay.book = step.book;
 }
 
 // An intraday session, the line of its answer and the money of all accounts: no futures arise in it.
-fn intraday_row(out: &mut [u8], at: usize, intact: bool, row: u64, book: Book) -> Replay
-    requires { (Good book) × (at + row_room ≤ length out.old) }
-    ensures { EventPut row book Intraday intact out.old at result out.new }
+fn intraday_row(out: &mut [u8], replay: &mut Replay)
+    requires { (Good replay.old.book) × (replay.old.waiting.at + row_room ≤ length out.old) }
+    ensures { EventPut replay.old out.old Intraday replay.new out.new }
 {
-    let step = sessions::intraday(book);
-    let answer = step.answer;
-    let paid = step.money;
-    let first = row_lines::answered(out, at, row, answer);
-    let end = row_lines::money(out, first, row, paid);
-    let after = step.book;
-    Replay {
-        book: after,
-        row: row,
-        at: end,
-        intact: intact,
-    }
+    let step = sessions::intraday(replay.book);
+    let next = row_lines::answered(out, replay.waiting.at, replay.row, step.answer);
+    replay.waiting.at = row_lines::money(out, next, replay.row, step.money);
+    replay.book = step.book;
 }
 
 // An event that is no session: its step, and the line of its answer alone.
-fn quiet_row(out: &mut [u8], at: usize, intact: bool, row: u64, book: Book, event: Event) -> Replay
-    requires { (Good book) × (at + row_room ≤ length out.old) × (is_session event ≡ false) }
-    ensures { EventPut row book event intact out.old at result out.new }
+fn quiet_row(out: &mut [u8], replay: &mut Replay, event: Event)
+    requires { (Good replay.old.book) × (replay.old.waiting.at + row_room ≤ length out.old) × (is_session event ≡ false) }
+    ensures { EventPut replay.old out.old event replay.new out.new }
 {
-    let step = clearing::step(book, event);
-    let answer = step.answer;
-    let next = row_lines::answered(out, at, row, answer);
-    let after = step.book;
-    Replay {
-        book: after,
-        row: row,
-        at: next,
-        intact: intact,
-    }
+    let step = clearing::step(replay.book, event);
+    replay.waiting.at = row_lines::answered(out, replay.waiting.at, replay.row, step.answer);
+    replay.book = step.book;
 }
 
-// An event: its step, and its lines.
-pub fn event_row(
-    out: &mut [u8],
-    at: usize,
-    intact: bool,
-    row: u64,
-    book: Book,
-    event: Event,
-) -> Replay
-    requires { (Good book) × (at + row_room ≤ length out.old) }
-    ensures { EventPut row book event intact out.old at result out.new }
+// An event: its step, and its lines, behind what waits.
+pub fn event_row(out: &mut [u8], replay: &mut Replay, event: Event)
+    requires { (Good replay.old.book) × (replay.old.waiting.at + row_room ≤ length out.old) }
+    ensures { EventPut replay.old out.old event replay.new out.new }
 {
     if is_session(event) {
         if let Event::Evening = event {
-            return evening_row(out, at, intact, row, book);
+            return evening_row(out, replay);
         }
-        return intraday_row(out, at, intact, row, book);
+        return intraday_row(out, replay);
     }
-    quiet_row(out, at, intact, row, book, event)
+    quiet_row(out, replay, event)
 }

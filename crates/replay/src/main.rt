@@ -22,39 +22,14 @@ use stream::types::{Input, Replay, Run, Waiting};
 const INPUT_ROOM: usize = 65536;
 
 // The end of the input: what it left without CRLF is a row.
-fn last_row<W: Write>(
-    output: &mut W,
-    calendar: &[u64],
-    buf: &[u8],
-    out: &mut [u8],
-    replay: Replay,
-    have: usize,
-) -> Run
-    requires { (Ready replay out.old) × (have ≤ length buf.now) }
-    ensures { TurnedBy (dates_of calendar.now) ending (take have buf.now) replay out.old result buf.now out.new }
+fn last_row<W: Write>(output: &mut W, calendar: &[u64], buf: &[u8], out: &mut [u8], run: &mut Run)
+    requires { (Ready run.old.replay out.old) × (run.old.have ≤ length buf.now) }
+    ensures { TurnedBy (dates_of calendar.now) ending (take run.old.have buf.now) run.old.replay out.old run.new buf.now out.new }
 {
-    if have == 0 {
-        return Run {
-            replay: replay,
-            have: 0,
-            going: false,
-        };
-    }
-    let book = replay.book;
-    let next = pass_row(
-        output,
-        calendar,
-        &buf[..have],
-        out,
-        book,
-        replay.row,
-        replay.at,
-        replay.intact,
-    );
-    Run {
-        replay: next,
-        have: 0,
-        going: false,
+    run.going = false;
+    if run.have > 0 {
+        pass_row(output, calendar, &buf[..run.have], out, &mut run.replay);
+        run.have = 0;
     }
 }
 
@@ -65,21 +40,18 @@ fn turn<R: Read, W: Write>(
     calendar: &[u64],
     buf: &mut [u8],
     out: &mut [u8],
-    run: Run,
-) -> Run
-    requires { (Ready run.replay out.old) × (run.have ≤ kept_bytes) × (kept_bytes < length buf.old) }
-    ensures { Turned (dates_of calendar.now) run buf.old out.old result buf.new out.new }
+    run: &mut Run,
+)
+    requires { (Ready run.old.replay out.old) × (run.old.have ≤ kept_bytes) × (kept_bytes < length buf.old) }
+    ensures { Turned (dates_of calendar.now) run.old buf.old out.old run.new buf.new out.new }
 {
-    let have = run.have;
-    let replay = run.replay;
-    match fill(input, buf, have) {
-        Input::UpTo(end) => pass(output, calendar, buf, out, replay, end),
-        Input::Ended => last_row(output, calendar, buf, out, replay, have),
-        Input::Failed => Run {
-            replay: replay,
-            have: 0,
-            going: false,
-        },
+    match fill(input, buf, run.have) {
+        Input::UpTo(end) => pass(output, calendar, buf, out, run, end),
+        Input::Ended => last_row(output, calendar, buf, out, run),
+        Input::Failed => {
+            run.have = 0;
+            run.going = false;
+        }
     }
 }
 
@@ -94,44 +66,34 @@ fn replayed<R: Read, W: Write>(
     requires { (kept_bytes < length buf.old) × (output_room ≤ length out.old) }
     ensures { (result.at ≤ waiting_room) × Replayed (dates_of calendar.now) out.new result }
 {
-    let at = lines::header(out, 0);
-    let book = clearing::empty();
+    let waiting = Waiting {
+        at: lines::header(out, 0),
+        intact: true,
+    };
     let mut run = Run {
         replay: Replay {
-            book: book,
+            book: clearing::empty(),
             row: 0,
-            at: at,
-            intact: true,
+            waiting,
         },
         have: 0,
         going: true,
     };
-    let mut turns = u64::MAX;
-    while turns > 0 {
-        let next = turn(input, output, calendar, buf, out, run);
-        run = next;
-        let going = run.going;
-        if !going {
+    for _ in 0..u64::MAX {
+        turn(input, output, calendar, buf, out, &mut run);
+        if !run.going {
             break;
         }
-        turns -= 1;
     }
-    let left = run.replay.at;
-    let intact = run.replay.intact;
-    Waiting {
-        at: left,
-        intact: intact,
-    }
+    run.replay.waiting
 }
 
 // Writes what waits in the output, where no write before it has failed.
 fn finish<W: Write>(output: &mut W, out: &[u8], waiting: Waiting)
     requires { (waiting.at ≤ length out.now) × Ran out.now waiting }
 {
-    let at = waiting.at;
-    let intact = waiting.intact;
-    if intact {
-        let _ = output.write_all(&out[..at]);
+    if waiting.intact {
+        let _ = output.write_all(&out[..waiting.at]);
     }
 }
 
@@ -160,8 +122,7 @@ fn run_by<R: Read, W: Write>(
     ensures { (result.at ≤ waiting_room) × RanBy (read_as read.reading read.numbers) out.new result }
 {
     let numbers = read.numbers;
-    let reading = read.reading;
-    match reading {
+    match read.reading {
         Reading::Dates(n) => with_input(input, output, &numbers[..n], out),
         Reading::NoCalendar => without_rows(out),
     }

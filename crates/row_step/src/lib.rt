@@ -9,65 +9,44 @@ ghost use Rattle.rows.specs.Row.{row_of};
 ghost use Rattle.stream.specs.Output.{Ready};
 ghost use Rattle.stream.specs.Parts.{RowPut, RowPassed};
 
-use book::state::{Book, Found, Period};
+use book::state::{Found, Period};
 use event_row::event_row;
 use rows::types::Row;
 use std::io::Write;
 use stream::types::Replay;
 
-// One row: its event is carried out or refused, and its lines are put behind what waits.
-fn answer_row(
-    calendar: &[u64],
-    bytes: &[u8],
-    out: &mut [u8],
-    book: Book,
-    last: u64,
-    at: usize,
-    intact: bool,
-) -> Replay
-    requires { (Good book) × (at + row_room ≤ length out.old) }
-    ensures { RowPut (record { book = book; row = last; at = at; intact = intact }) out.old (row_of (dates_of calendar.now) bytes.now) result out.new }
+// A row: its event is carried out or refused, and its lines are put behind what waits.
+fn answer_row(calendar: &[u64], bytes: &[u8], out: &mut [u8], replay: &mut Replay)
+    requires { (Good replay.old.book) × (replay.old.waiting.at + row_room ≤ length out.old) }
+    ensures { RowPut replay.old out.old (row_of (dates_of calendar.now) bytes.now) replay.new out.new }
 {
-    let row = std::num::wrapping_add_u64(last, 1);
+    replay.row = replay.row.wrapping_add(1);
     match row_reader::read_row(calendar, bytes) {
         Row::Refused(why) => {
-            let next = lines::answer(
+            replay.waiting.at = lines::answer(
                 out,
-                at,
-                row,
+                replay.waiting.at,
+                replay.row,
                 Found::Nothing,
                 Period::Untold,
                 answers::number::of_row(why),
             );
-            Replay {
-                book: book,
-                row: row,
-                at: next,
-                intact: intact,
-            }
         }
-        Row::Accepted(event) => event_row(out, at, intact, row, book, event),
+        Row::Accepted(event) => event_row(out, replay, event),
     }
 }
 
-// The row after row number `last`, where `at` bytes of output wait: it is answered, and where what waits then leaves no room for the
-// lines of one more row it is let go.
+// The next row: it is answered, and where what waits then leaves no room for the lines of one more row it is let go.
 pub fn pass_row<W: Write>(
     output: &mut W,
     calendar: &[u64],
     bytes: &[u8],
     out: &mut [u8],
-    book: Book,
-    last: u64,
-    at: usize,
-    intact: bool,
-) -> Replay
-    requires { Ready (record { book = book; row = last; at = at; intact = intact }) out.old }
-    ensures { RowPassed (record { book = book; row = last; at = at; intact = intact }) out.old (row_of (dates_of calendar.now) bytes.now) result out.new }
+    replay: &mut Replay,
+)
+    requires { Ready replay.old out.old }
+    ensures { RowPassed replay.old out.old (row_of (dates_of calendar.now) bytes.now) replay.new out.new }
 {
-    let mut next = answer_row(calendar, bytes, out, book, last, at, intact);
-    let waiting = buffers::flushed(output, out, next.at, next.intact);
-    next.at = waiting.at;
-    next.intact = waiting.intact;
-    next
+    answer_row(calendar, bytes, out, replay);
+    buffers::flush(output, out, &mut replay.waiting);
 }

@@ -10,22 +10,22 @@ use stream::types::SeriesRow;
 use terms::bounds::SERIES;
 
 // The row that starts at a place of a buffer and ends at the next CRLF.
-pub fn series_row(calendar: &[u64], input: &[u8], from: usize) -> SeriesRow
+pub fn series_row(calendar: &[u64], input: &[u8], from: usize) -> Option<SeriesRow>
     ensures { result ≡ series_row_at (dates_of calendar.now) input.now from }
 {
     let End::At(end) = row_cut::row_end(input, from) else {
-        return SeriesRow::Other;
+        return None;
     };
     let Row::Accepted(event) = row_reader::read_row(calendar, &input[from..end]) else {
-        return SeriesRow::Other;
+        return None;
     };
     let series = effect::series_of(event);
     if SERIES <= series {
-        return SeriesRow::Other;
+        return None;
     }
-    SeriesRow::OnSeries {
-        series: series,
-        event: event,
+    Some(SeriesRow {
+        series,
+        event,
         next: end + 2,
-    }
+    })
 }

@@ -2,7 +2,6 @@
 use Rattle.std.specs.Prelude.{◌≡◌, Bool, List, [], ◌∷◌, ℕ, ◌+◌, ◌%◌, ◌^◌, ◌≤◌, length, take, drop}
 use Rattle.book.specs.Good.{Good}
 use Rattle.book.specs.Step.{step_of}
-use Rattle.book.specs.declared.state.Book.{Book}
 use Rattle.book.specs.declared.state.Event.{Event}
 use Rattle.contract.specs.declared.types.Date.{Date}
 use Rattle.decimal.specs.Put.{Put}
@@ -11,7 +10,6 @@ use Rattle.rows.specs.Cut.{cut}
 use Rattle.rows.specs.declared.types.Row.{Row}
 use Rattle.stream.specs.Rows.{read_rows, book_by, lines_by}
 use Rattle.stream.specs.Output.{waiting_room, waits_on, let_go, Intact, Ready, Answered}
-use Rattle.stream.specs.declared.types.Passed.{Passed}
 use Rattle.stream.specs.declared.types.Replay.{Replay}
 use Rattle.stream.specs.declared.types.Waiting.{Waiting}
 
@@ -21,23 +19,23 @@ pub record Flushed (text : List ℕ) (unbroken : Bool) (waiting : Waiting) (afte
   pub waits : take waiting.at after ≡ waits_on text
   pub intact : Intact unbroken (let_go text) waiting.intact
 
--- An event on book b is row number n: the book after it is its step's and good, and its report is put at a place of the buffer.
-pub record EventPut (n : ℕ) (b : Book) (event : Event) (unbroken : Bool) (before : List ℕ) (place : ℕ) (to : Replay) (after : List ℕ) : Type 0 where
+-- An event is the row that was counted last: the book after it is its step's and good, and its report is put behind what waits.
+pub record EventPut (from : Replay) (before : List ℕ) (event : Event) (to : Replay) (after : List ℕ) : Type 0 where
   pub good : Good to.book
-  pub book : to.book ≡ (step_of b event).book
-  pub number : to.row ≡ n
-  pub lines : Put before place (report_of n b.series (step_of b event)) after to.at
-  pub room : to.at ≤ place + row_room
-  pub intact : to.intact ≡ unbroken
+  pub book : to.book ≡ (step_of from.book event).book
+  pub number : to.row ≡ from.row
+  pub lines : Put before from.waiting.at (report_of from.row from.book.series (step_of from.book event)) after to.waiting.at
+  pub room : to.waiting.at ≤ from.waiting.at + row_room
+  pub intact : to.waiting.intact ≡ from.waiting.intact
 
 -- A row is answered: the book after it is good, it is counted, and its lines are put behind what waits.
 pub record RowPut (from : Replay) (before : List ℕ) (row : Row) (to : Replay) (after : List ℕ) : Type 0 where
   pub good : Good to.book
   pub book : to.book ≡ book_by from.book row
   pub number : to.row ≡ (from.row + 1) % 2 ^ 64
-  pub lines : Put before from.at (lines_by to.row from.book row) after to.at
-  pub room : to.at ≤ from.at + row_room
-  pub intact : to.intact ≡ from.intact
+  pub lines : Put before from.waiting.at (lines_by to.row from.book row) after to.waiting.at
+  pub room : to.waiting.at ≤ from.waiting.at + row_room
+  pub intact : to.waiting.intact ≡ from.waiting.intact
 
 -- A row is answered, and what waits leaves room for the lines of one more: the replay is ready for it.
 pub record RowPassed (from : Replay) (before : List ℕ) (row : Row) (to : Replay) (after : List ℕ) : Type 0 where
@@ -45,9 +43,9 @@ pub record RowPassed (from : Replay) (before : List ℕ) (row : Row) (to : Repla
   pub ready : Ready to after
 
 -- All rows that end in a buffer of input are answered, up to the place where the unfinished one starts.
-pub record AllPassed (calendar : List Date) (input : List ℕ) (from : Replay) (before : List ℕ) (to : Passed) (after : List ℕ) : Type 0 where
-  pub answered : Answered from before (read_rows calendar (cut input).rows) to.replay after
-  pub none : (cut (drop to.from input)).rows ≡ []
-  pub unfinished : drop to.from input ≡ (cut input).rest
-  pub within : to.from ≤ length input
-  pub ready : Ready to.replay after
+pub record AllPassed (calendar : List Date) (input : List ℕ) (from : Replay) (before : List ℕ) (to : Replay) (after : List ℕ) (start : ℕ) : Type 0 where
+  pub answered : Answered from before (read_rows calendar (cut input).rows) to after
+  pub none : (cut (drop start input)).rows ≡ []
+  pub unfinished : drop start input ≡ (cut input).rest
+  pub within : start ≤ length input
+  pub ready : Ready to after

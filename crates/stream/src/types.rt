@@ -1,37 +1,26 @@
 use book::state::{Book, Event};
 
-// The book, the rows answered so far, the bytes of output that wait to be written, and whether no write before them failed.
-#[derive(Clone, Copy)]
-pub struct Replay {
-    pub book: Book,
-    pub row: u64,
-    pub at: usize,
-    pub intact: bool,
-}
-
-// What waits of the output, and whether no write before it failed.
+// The bytes of output that wait to be written, and whether no write before them failed.
 #[derive(Clone, Copy)]
 pub struct Waiting {
     pub at: usize,
     pub intact: bool,
 }
 
-// The replay after the whole rows of a buffer, and where the unfinished row starts.
+// The book, the rows answered so far, and what waits of the output.
 #[derive(Clone, Copy)]
-pub struct Passed {
-    pub replay: Replay,
-    pub from: usize,
+pub struct Replay {
+    pub book: Book,
+    pub row: u64,
+    pub waiting: Waiting,
 }
 
-// The next row of a buffer: an event on one series, and where the row after it starts; or another row, or none that ends.
+// A row that is an event on one series, and where the row after it starts.
 #[derive(Clone, Copy)]
-pub enum SeriesRow {
-    OnSeries {
-        series: usize,
-        event: Event,
-        next: usize,
-    },
-    Other,
+pub struct SeriesRow {
+    pub series: usize,
+    pub event: Event,
+    pub next: usize,
 }
 
 // What a read gave: input up to a place of the buffer, its end, or an error.

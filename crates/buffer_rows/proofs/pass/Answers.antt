@@ -8,8 +8,8 @@ use Rattle.buffer_rows.proofs.pass.Goals as goal
 pub returns : goal.returns
 unfolding rows_by kept_by goes_on
 returns g c =
-    let w = c.whole_rows-passed.ensures in
-    let k = c.keep-left in
+    let w = c.whole_rows-start.ensures in
+    let k = c.keep-run in
     record {
       answered = w.answered;
       keeps = k.ensures.2 ∙ ap kept w.unfinished;

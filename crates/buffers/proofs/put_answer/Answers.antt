@@ -6,5 +6,5 @@ use Rattle.buffers.proofs.put_answer.Goals as goal
 
 pub returns : goal.returns
 returns g c =
-    let p = c.answered-end.ensures in
-    text_flushed (put_behind p.put (omega (arith, p.upper_bound, c.requires.0, c.requires.1))) refl c.flushed.ensures
+    let p = c.answered-waiting.ensures in
+    text_flushed (put_behind p.put (omega (arith, p.upper_bound, c.requires.0, c.requires.1))) refl c.flush.ensures

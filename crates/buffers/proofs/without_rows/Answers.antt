@@ -7,5 +7,5 @@ use Rattle.buffers.proofs.without_rows.Goals as goal
 
 pub returns : goal.returns
 returns c =
-    let n = c.no_calendar-next.ensures in
+    let n = c.no_calendar.ensures in
     (omega (arith, n.upper_bound), put_behind n.put (search rules), refl)

@@ -11,13 +11,13 @@ use Rattle.event_row.proofs.intraday_row.Goals as goal
 pub returns : goal.returns
 returns c =
     let s = c.intraday-step in
-    let p = c.money-end.ensures in
-    let a = c.answered-first.ensures in
+    let p = c.money-replay.ensures in
+    let a = c.answered-next.ensures in
     record {
-      good = stays_good c.args.book Intraday s.result c.requires.0 s.ensures;
+      good = stays_good c.args.replay.now.book Intraday s.result c.requires.0 s.ensures;
       book = ap (λ (x : Step). x.book) s.ensures;
       number = refl;
-      lines = rw (intraday_report c.args.row c.args.book, ← s.ensures) (a.put then p.put);
+      lines = rw (intraday_report c.args.replay.now.row c.args.replay.now.book, ← s.ensures) (a.put then p.put);
       room = omega (arith, a.upper_bound, p.upper_bound);
       intact = refl;
     }

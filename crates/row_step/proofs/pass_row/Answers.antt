@@ -5,8 +5,8 @@ use Rattle.row_step.proofs.pass_row.Goals as goal
 
 pub returns : goal.returns
 returns g c =
-    let a = c.answer_row-next in
-    let f = c.flushed-waiting in
+    let a = c.answer_row in
+    let f = c.flush in
     record {
       answered = row_answered c.requires a.ensures f.ensures;
       ready = record { good = a.ensures.good; waiting = f.ensures.room; room = omega (arith, a.auto.out, f.auto.out, c.requires.room) };

@@ -1,7 +1,7 @@
 -- `rows_in_place::whole_rows` meets its contract: each row is answered, which keeps the book good, and leaves room for the lines of one
 -- more. A row on one series is its event's step, and has its answer's line alone. The book of a turn is the one in the loop with the
 -- positions put back.
-use Rattle.std.proofs.Common.{◌≡◌, ℕ, ◌<◌, List, length, sym, refl, ap, ◌∙◌, subst, ap₂, arith, length-set}
+use Rattle.std.proofs.Common.{◌≡◌, ℕ, ◌+◌, ◌%◌, ◌^◌, ◌<◌, List, length, sym, refl, ap, ◌∙◌, subst, ap₂, arith, length-set}
 use Rattle.calendar.specs.Days.{dates_of}
 use Rattle.integer.specs.Bounds.{Bounded}
 use Rattle.integer.proofs.Table.{length_table}
@@ -25,89 +25,88 @@ use Rattle.stream.proofs.Books.{book_accepted, series_line}
 use Rattle.stream.proofs.Lines.{up_to_none, up_to_next, lines_answered, next_answered, all_answered}
 use Rattle.stream.proofs.NextRow.{Found, found}
 use Rattle.rows_in_place.proofs.whole_rows.Given.{Over}
-use Rattle.rows_in_place.proofs.whole_rows.Goals.{After-put_answer-waiting, After-put_back-rejoined}
+use Rattle.rows_in_place.proofs.whole_rows.Goals.{After-put_answer, After-put_back-replay}
 use Rattle.rows_in_place.proofs.whole_rows.Goals as goal
-use Rattle.rows_in_place.proofs.whole_rows.Invariants.{UpTo, state}
+use Rattle.rows_in_place.proofs.whole_rows.Invariants.{UpTo}
 
 -- the positions that stand apart are bounded, where the book with them put back is good
 bounded_at : (b : Book) (held : List Held) (i : ℕ) → i < series_room → Good (rejoined b held) → Bounded max_position (held_at held i).positions
 bounded_at b held i h good = subst (λ (s : Series). Bounded max_position s.positions) (series_rejoined b held i h) (good.series i h).positions.bounded
 
 -- ---- another row, or none: the positions are put back
-module _ (g : Over) (c : After-put_back-rejoined g) where
+module _ (g : Over) (c : After-put_back-replay g) where
   abbrev With : List Series → Type 0
   With series =
-      UpTo (dates_of c.args.calendar.now) c.args.input.now c.args.replay c.args.out.now
-      (state (with_all_series c.loop-series.book series) c.loop-series.row c.loop-series.at c.loop-series.intact) c.loop-series.from c.loop-series.out
+      UpTo (dates_of c.args.calendar.now) c.args.input.now c.args.replay.now c.args.out.now
+      (record { book = with_all_series c.loop-series.replay.book series; row = c.loop-series.replay.row; waiting = c.loop-series.replay.waiting }) c.loop-series.from c.loop-series.out
 
-  whole : With c.put_back-rejoined.result
-  whole = subst With (sym c.put_back-rejoined.ensures) c.loop-series.invariant.3
+  whole : With c.put_back-replay.result
+  whole = subst With (sym c.put_back-replay.ensures) c.loop-series.invariant.3
 
 -- ---- a row on one series, whose answer was put behind what waits
-module _ (g : Over) (c : After-put_answer-waiting g) where
+module _ (g : Over) (c : After-put_answer g) where
   abbrev now : Book
-  now = rejoined c.loop-series.book c.loop-series.held
+  now = rejoined c.loop-series.replay.book c.loop-series.held
 
   abbrev good : Good now
   good = c.loop-series.invariant.3.ready.good
 
-  abbrev row : Found (dates_of c.args.calendar.now) c.args.input.now c.loop-series.from c.in-OnSeries.series c.in-OnSeries.event c.in-OnSeries.next
-  row = found _ _ _ c.series_row.ensures _ _ _ c.in-OnSeries.is
+  abbrev row : Found (dates_of c.args.calendar.now) c.args.input.now c.loop-series.from c.in-Some.field-0.series c.in-Some.field-0.event c.in-Some.field-0.next
+  row = found _ _ _ c.series_row.ensures _ _ _ c.in-Some.is
 
   -- its series, as it stands in the loop
-  its_series : series_at now c.in-OnSeries.series ≡ with_positions (series_at c.loop-series.book c.in-OnSeries.series) (held_at c.loop-series.held c.in-OnSeries.series).positions
-  its_series = series_rejoined c.loop-series.book c.loop-series.held c.in-OnSeries.series row.room
+  its_series : series_at now c.in-Some.field-0.series ≡ with_positions (series_at c.loop-series.replay.book c.in-Some.field-0.series) (held_at c.loop-series.held c.in-Some.field-0.series).positions
+  its_series = series_rejoined c.loop-series.replay.book c.loop-series.held c.in-Some.field-0.series row.room
 
   fits : Fits c.effect-effect.result
-  fits = rw c.effect-effect.ensures (effect_fits _ (series_at c.loop-series.book c.in-OnSeries.series).listing _ (bounded_at c.loop-series.book c.loop-series.held c.in-OnSeries.series row.room good) c.in-OnSeries.event)
+  fits = rw c.effect-effect.ensures (effect_fits _ (series_at c.loop-series.replay.book c.in-Some.field-0.series).listing _ (bounded_at c.loop-series.replay.book c.loop-series.held c.in-Some.field-0.series row.room good) c.in-Some.field-0.event)
 
-  effect_is : c.effect-effect.result ≡ effect_at now c.in-OnSeries.series c.in-OnSeries.event
+  effect_is : c.effect-effect.result ≡ effect_at now c.in-Some.field-0.series c.in-Some.field-0.event
   effect_is =
       c.effect-effect.ensures
-      ∙ ap (λ (s : Series). effect_of (today_of now) s.listing s.positions c.in-OnSeries.event) (sym its_series)
+      ∙ ap (λ (s : Series). effect_of (today_of now) s.listing s.positions c.in-Some.field-0.event) (sym its_series)
 
-  answered : c.answer-answer.result ≡ (step_of now c.in-OnSeries.event).answer
-  answered = c.answer-answer.ensures ∙ ap answer_by effect_is ∙ answer_by_effect now c.in-OnSeries.event c.in-OnSeries.series row.series row.room
+  answered : c.answer.result ≡ (step_of now c.in-Some.field-0.event).answer
+  answered = c.answer.ensures ∙ ap answer_by effect_is ∙ answer_by_effect now c.in-Some.field-0.event c.in-Some.field-0.series row.series row.room
 
   -- the row is passed, once the book is its step's
-  passed : (b : Book) → b ≡ (step_of now c.in-OnSeries.event).book
-      → UpTo (dates_of c.args.calendar.now) c.args.input.now c.args.replay c.args.out.now
-      (state b c.wrapping_add_u64-row.result c.put_answer-waiting.result.at c.put_answer-waiting.result.intact) c.in-OnSeries.next
-      c.put_answer-waiting.new.out
+  passed : (b : Book) → b ≡ (step_of now c.in-Some.field-0.event).book
+      → UpTo (dates_of c.args.calendar.now) c.args.input.now c.args.replay.now c.args.out.now
+      (record { book = b; row = (c.loop-series.replay.row + 1) % 2 ^ 64; waiting = c.put_answer.new.waiting }) c.in-Some.field-0.next
+      c.put_answer.new.out
   passed b e =
       let p = c.loop-series.invariant.3 in
-      let w = c.put_answer-waiting in
+      let w = c.put_answer in
       let k : length w.new.out ≡ length c.loop-series.out = w.auto.out in
       record {
         answered = up_to_next (rw row.first at p.answered)
-            (lines_answered (e ∙ book_accepted now row.says) c.wrapping_add_u64-row.ensures.value
-            (rw (← series_line c.wrapping_add_u64-row.result now good c.in-OnSeries.event (rw (← row.series) row.room) answered row.says) w.ensures));
+            (lines_answered (e ∙ book_accepted now row.says) refl
+            (rw (← series_line ((c.loop-series.replay.row + 1) % 2 ^ 64) now good c.in-Some.field-0.event (rw (← row.series) row.room) answered row.says) w.ensures));
         within = row.within;
-        ready = record { good = subst Good (sym e) (good_step now good c.in-OnSeries.event); waiting = w.ensures.room; room = omega (arith, k, p.ready.room) };
+        ready = record { good = subst Good (sym e) (good_step now good c.in-Some.field-0.event); waiting = w.ensures.room; room = omega (arith, k, p.ready.room) };
       }
 
 pub loop-series-init : goal.loop-series-init
 loop-series-init g c =
     let long = c.requires.good.series_long in
-    let same : rejoined c.args.replay.book c.taken_out-held.result ≡ c.args.replay.book = rw c.taken_out-held.ensures (rejoined_taken c.args.replay.book long) in (
+    let same : rejoined c.args.replay.now.book c.taken_out-held.result ≡ c.args.replay.now.book = rw c.taken_out-held.ensures (rejoined_taken c.args.replay.now.book long) in (
       refl,
       long,
       rw c.taken_out-held.ensures (length_table series_room _),
-      rw same (record { answered = up_to_none _ c.args.replay c.args.out.now _; within = omega arith; ready = c.requires }),
+      rw same (record { answered = up_to_none _ c.args.replay.now c.args.out.now _; within = omega arith; ready = c.requires }),
     )
 
 pub returns-in_default-row_end : goal.returns-in_default-row_end
 returns-in_default-row_end g c =
-    let p = whole g (goal.at.returns-in_default-row_end g c).After-put_back-rejoined in
+    let p = whole g (goal.at.returns-in_default-row_end g c).After-put_back-replay in
     let all = all_answered c.args.input.now c.loop-series.from c.row_end.ensures p.answered c.in_default-row_end.is in
-    rw c.up_to.ensures
-    (record {
+    record {
       answered = all.1;
       none = ap (λ (x : Cut). x.rows) (no_row_lem c.args.input.now c.loop-series.from _ c.row_end.ensures c.in_default-row_end.is);
       unfinished = all.0;
       within = p.within;
       ready = p.ready;
-    })
+    }
 
 -- ---- the other row is answered, and the positions are taken out of the book after it
 pub slice_bounds-pass_row-count : goal.slice_bounds-pass_row-count
@@ -126,10 +125,10 @@ loop-series-smaller-in_default g c =
 
 pub loop-series-preserved-in_default : goal.loop-series-preserved-in_default
 loop-series-preserved-in_default g c =
-    let p = whole g (goal.at.loop-series-preserved-in_default g c).After-put_back-rejoined in
-    let a = c.pass_row-next in
+    let p = whole g (goal.at.loop-series-preserved-in_default g c).After-put_back-replay in
+    let a = c.pass_row in
     let long = a.ensures.ready.good.series_long in
-    let same : rejoined a.result.book c.taken_out-held-in_default.result ≡ a.result.book = rw c.taken_out-held-in_default.ensures (rejoined_taken a.result.book long) in (
+    let same : rejoined a.new.replay.book c.taken_out-held-in_default.result ≡ a.new.replay.book = rw c.taken_out-held-in_default.ensures (rejoined_taken a.new.replay.book long) in (
       omega (arith, a.auto.out, c.loop-series.invariant.0),
       long,
       rw c.taken_out-held-in_default.ensures (length_table series_room _),
@@ -143,127 +142,121 @@ loop-series-preserved-in_default g c =
     )
 
 -- ---- the event on one series is carried out
-pub offset_bounds-book-series : goal.offset_bounds-book-series
-offset_bounds-book-series g c = omega (arith, (found _ _ _ c.series_row.ensures _ _ _ c.in-OnSeries.is).room)
+pub offset_bounds-replay-series : goal.offset_bounds-replay-series
+offset_bounds-replay-series g c = omega (arith, (found _ _ _ c.series_row.ensures _ _ _ c.in-Some.is).room)
 
-pub bounds-book-series : goal.bounds-book-series
-bounds-book-series g c = (found _ _ _ c.series_row.ensures _ _ _ c.in-OnSeries.is).room
+pub bounds-replay-series : goal.bounds-replay-series
+bounds-replay-series g c = (found _ _ _ c.series_row.ensures _ _ _ c.in-Some.is).room
 
 pub offset_bounds-held-series : goal.offset_bounds-held-series
-offset_bounds-held-series g c = omega (arith, (found _ _ _ c.series_row.ensures _ _ _ c.in-OnSeries.is).room)
+offset_bounds-held-series g c = omega (arith, (found _ _ _ c.series_row.ensures _ _ _ c.in-Some.is).room)
 
 pub bounds-held-series : goal.bounds-held-series
-bounds-held-series g c = (found _ _ _ c.series_row.ensures _ _ _ c.in-OnSeries.is).room
+bounds-held-series g c = (found _ _ _ c.series_row.ensures _ _ _ c.in-Some.is).room
 
 pub effect-effect-requires : goal.effect-effect-requires
 effect-effect-requires g c =
-    let r = found _ _ _ c.series_row.ensures _ _ _ c.in-OnSeries.is in
-    let tick = subst (λ (s : Series). c.in-OnSeries.series < c.loop-series.book.listed → 0 < s.listing.tick)
-    (series_rejoined c.loop-series.book c.loop-series.held c.in-OnSeries.series r.room) (c.loop-series.invariant.3.ready.good.tick c.in-OnSeries.series) in
+    let r = found _ _ _ c.series_row.ensures _ _ _ c.in-Some.is in
+    let tick = subst (λ (s : Series). c.in-Some.field-0.series < c.loop-series.replay.book.listed → 0 < s.listing.tick)
+    (series_rejoined c.loop-series.replay.book c.loop-series.held c.in-Some.field-0.series r.room) (c.loop-series.invariant.3.ready.good.tick c.in-Some.field-0.series) in
     rw (← r.series) tick
 
 pub move_positions-requires : goal.move_positions-requires
 move_positions-requires g c =
-    let r = found _ _ _ c.series_row.ensures _ _ _ c.in-OnSeries.is in
-    let k = bounded_at c.loop-series.book c.loop-series.held c.in-OnSeries.series r.room c.loop-series.invariant.3.ready.good in
-    (rw c.effect-effect.ensures (effect_fits _ (series_at c.loop-series.book c.in-OnSeries.series).listing _ k c.in-OnSeries.event), k)
+    let r = found _ _ _ c.series_row.ensures _ _ _ c.in-Some.is in
+    let k = bounded_at c.loop-series.replay.book c.loop-series.held c.in-Some.field-0.series r.room c.loop-series.invariant.3.ready.good in
+    (rw c.effect-effect.ensures (effect_fits _ (series_at c.loop-series.replay.book c.in-Some.field-0.series).listing _ k c.in-Some.field-0.event), k)
 
 pub offset_bounds-held-series-in-loop-series : goal.offset_bounds-held-series-in-loop-series
-offset_bounds-held-series-in-loop-series g c = omega (arith, (found _ _ _ c.series_row.ensures _ _ _ c.in-OnSeries.is).room)
+offset_bounds-held-series-in-loop-series g c = omega (arith, (found _ _ _ c.series_row.ensures _ _ _ c.in-Some.is).room)
 
 pub bounds-held-series-in-loop-series : goal.bounds-held-series-in-loop-series
-bounds-held-series-in-loop-series g c = (found _ _ _ c.series_row.ensures _ _ _ c.in-OnSeries.is).room
+bounds-held-series-in-loop-series g c = (found _ _ _ c.series_row.ensures _ _ _ c.in-Some.is).room
 
-pub offset_bounds-book-n : goal.offset_bounds-book-n
-offset_bounds-book-n g c =
+pub offset_bounds-replay-n : goal.offset_bounds-replay-n
+offset_bounds-replay-n g c =
     let k : c.next_record-n.result < blotter_room = rw c.next_record-n.ensures (next_record_within _) in
     omega (arith, k)
 
-pub bounds-book-n : goal.bounds-book-n
-bounds-book-n g c =
+pub bounds-replay-n : goal.bounds-replay-n
+bounds-replay-n g c =
     let k : c.next_record-n.result < blotter_room = rw c.next_record-n.ensures (next_record_within _) in
     k
 
-pub offset_bounds-book-n-in-loop-series : goal.offset_bounds-book-n-in-loop-series
-offset_bounds-book-n-in-loop-series g c =
+pub offset_bounds-replay-n-in-loop-series : goal.offset_bounds-replay-n-in-loop-series
+offset_bounds-replay-n-in-loop-series g c =
     let k : c.next_record-n.result < blotter_room = rw c.next_record-n.ensures (next_record_within _) in
     omega (arith, k)
 
-pub bounds-book-n-in-loop-series : goal.bounds-book-n-in-loop-series
-bounds-book-n-in-loop-series g c =
+pub bounds-replay-n-in-loop-series : goal.bounds-replay-n-in-loop-series
+bounds-replay-n-in-loop-series g c =
     let k : c.next_record-n.result < blotter_room = rw c.next_record-n.ensures (next_record_within _) in
     k
 
 -- ---- the next turn
 pub loop-series-smaller-in-Traded : goal.loop-series-smaller-in-Traded
 loop-series-smaller-in-Traded g c =
-    let r = row g (goal.at.loop-series-smaller-in-Traded g c).After-put_answer-waiting in
+    let r = row g (goal.at.loop-series-smaller-in-Traded g c).After-put_answer in
     omega (arith, r.later, r.within)
 
 pub loop-series-preserved-in-Traded : goal.loop-series-preserved-in-Traded
 loop-series-preserved-in-Traded g c =
-    let n = (goal.at.loop-series-preserved-in-Traded g c).After-put_answer-waiting in
+    let n = (goal.at.loop-series-preserved-in-Traded g c).After-put_answer in
     let told = c.in-Traded.is in
-    let b = c.loop-series.book in
+    let b = c.loop-series.replay.book in
     let held = c.loop-series.held in
     let e =
-    traded_apart b held c.in-OnSeries.series c.next_record-n.result c.loop-series.invariant.1 c.loop-series.invariant.2 (row g n).room c.in-OnSeries.event
+    traded_apart b held c.in-Some.field-0.series c.next_record-n.result c.loop-series.invariant.1 c.loop-series.invariant.2 (row g n).room c.in-Some.field-0.event
     (row g n).series c.next_record-n.ensures c.in-Traded.field-0 (sym told ∙ effect_is g n)
     (c.move_positions.ensures ∙ ap₂ positions_by told (ap (λ (s : Series). s.positions) (sym (its_series g n))))
-    (c.entry-entry.ensures ∙ ap (λ (f : Effect). record_by f (trade_at b c.next_record-n.result)) told)
-    (c.counted.ensures ∙ ap (λ (f : Effect). trades_by f b.trades) told)
+    (c.entry.ensures ∙ ap (λ (f : Effect). record_by f (trade_at b c.next_record-n.result)) told)
+    (c.counted-replay.ensures ∙ ap (λ (f : Effect). trades_by f b.trades) told)
     in (
-      omega (arith, c.put_answer-waiting.auto.out, c.loop-series.invariant.0),
+      omega (arith, c.put_answer.auto.out, c.loop-series.invariant.0),
       c.loop-series.invariant.1,
-      length-set held c.in-OnSeries.series _ ∙ c.loop-series.invariant.2,
+      length-set held c.in-Some.field-0.series _ ∙ c.loop-series.invariant.2,
       passed g n _ e,
     )
 
 -- another event than a trade has changed its series
-pub offset_bounds-book-series-in-loop-series : goal.offset_bounds-book-series-in-loop-series
-offset_bounds-book-series-in-loop-series g c = omega (arith, (found _ _ _ c.series_row.ensures _ _ _ c.in-OnSeries.is).room)
+pub offset_bounds-replay-series-in-loop-series : goal.offset_bounds-replay-series-in-loop-series
+offset_bounds-replay-series-in-loop-series g c = omega (arith, (found _ _ _ c.series_row.ensures _ _ _ c.in-Some.is).room)
 
-pub bounds-book-series-in-loop-series : goal.bounds-book-series-in-loop-series
-bounds-book-series-in-loop-series g c = (found _ _ _ c.series_row.ensures _ _ _ c.in-OnSeries.is).room
+pub bounds-replay-series-in-loop-series : goal.bounds-replay-series-in-loop-series
+bounds-replay-series-in-loop-series g c = (found _ _ _ c.series_row.ensures _ _ _ c.in-Some.is).room
 
 pub set_request-requires : goal.set_request-requires
-set_request-requires g c = fits g (goal.at.set_request-requires g c).After-put_answer-waiting
+set_request-requires g c = fits g (goal.at.set_request-requires g c).After-put_answer
 
 pub set_decline-requires : goal.set_decline-requires
-set_decline-requires g c = fits g (goal.at.set_decline-requires g c).After-put_answer-waiting
-
-pub offset_bounds-book-series-in-loop-series-2 : goal.offset_bounds-book-series-in-loop-series-2
-offset_bounds-book-series-in-loop-series-2 g c = omega (arith, (found _ _ _ c.series_row.ensures _ _ _ c.in-OnSeries.is).room)
-
-pub bounds-book-series-in-loop-series-2 : goal.bounds-book-series-in-loop-series-2
-bounds-book-series-in-loop-series-2 g c = (found _ _ _ c.series_row.ensures _ _ _ c.in-OnSeries.is).room
+set_decline-requires g c = fits g (goal.at.set_decline-requires g c).After-put_answer
 
 pub loop-series-smaller : goal.loop-series-smaller
 loop-series-smaller g c =
-    let r = row g (goal.at.loop-series-smaller g c).After-put_answer-waiting in
+    let r = row g (goal.at.loop-series-smaller g c).After-put_answer in
     omega (arith, r.later, r.within)
 
 pub loop-series-preserved : goal.loop-series-preserved
 loop-series-preserved g c =
-    let n = (goal.at.loop-series-preserved g c).After-put_answer-waiting in
-    let b = c.loop-series.book in
+    let n = (goal.at.loop-series-preserved g c).After-put_answer in
+    let b = c.loop-series.replay.book in
     let held = c.loop-series.held in
     let s = sym (its_series g n) in
     let e =
-    stored_apart b held c.in-OnSeries.series c.next_record-n.result c.loop-series.invariant.1 c.loop-series.invariant.2 (row g n).room c.in-OnSeries.event
+    stored_apart b held c.in-Some.field-0.series c.next_record-n.result c.loop-series.invariant.1 c.loop-series.invariant.2 (row g n).room c.in-Some.field-0.event
     (row g n).series c.next_record-n.ensures c.effect-effect.result (effect_is g n)
     (record {
-      answer = c.answer-answer.ensures;
+      answer = c.answer.ensures;
       moved = c.move_positions.ensures ∙ ap (λ (x : Series). positions_by c.effect-effect.result x.positions) s;
       requested = c.set_request.ensures ∙ ap (λ (x : Series). requests_by c.effect-effect.result x.requests) s;
       declining = c.set_decline.ensures ∙ ap (λ (x : Series). declines_by c.effect-effect.result x.declined) s;
-      mark = c.mark-marked.ensures ∙ ap (λ (x : Series). mark_by c.effect-effect.result x.mark) s;
-      recorded = c.entry-entry.ensures;
-      counted = c.counted.ensures;
+      mark = c.mark-s.ensures ∙ ap (λ (x : Series). mark_by c.effect-effect.result x.mark) s;
+      recorded = c.entry.ensures;
+      counted = c.counted-replay.ensures;
     })
     in (
-      omega (arith, c.put_answer-waiting.auto.out, c.loop-series.invariant.0),
-      length-set b.series c.in-OnSeries.series _ ∙ c.loop-series.invariant.1,
-      length-set held c.in-OnSeries.series _ ∙ c.loop-series.invariant.2,
+      omega (arith, c.put_answer.auto.out, c.loop-series.invariant.0),
+      length-set b.series c.in-Some.field-0.series _ ∙ c.loop-series.invariant.1,
+      length-set held c.in-Some.field-0.series _ ∙ c.loop-series.invariant.2,
       passed g n _ e,
     )

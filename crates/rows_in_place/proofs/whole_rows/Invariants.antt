@@ -1,9 +1,9 @@
-use Rattle.std.proofs.Common.{◌≡◌, ℕ, ◌-◌, ◌≤◌, Bool, List, length, drop}
+use Rattle.std.proofs.Common.{◌≡◌, ℕ, ◌-◌, ◌≤◌, List, length, drop}
 use Rattle.contract.specs.declared.types.Date.{Date}
 use Rattle.calendar.specs.Days.{dates_of}
 use Rattle.terms.specs.Bounds.{series_room}
 use Rattle.book.specs.Apart.{rejoined}
-use Rattle.book.specs.declared.state.Book.{Book}
+use Rattle.book.specs.declared.state.Held.{Held}
 use Rattle.rows.specs.Cut.{cut}
 use Rattle.stream.specs.Output.{AnsweredUpTo, Ready}
 use Rattle.stream.specs.declared.types.Replay.{Replay}
@@ -15,14 +15,14 @@ pub record UpTo (calendar : List Date) (input : List ℕ) (first : Replay) (befo
   pub within : from ≤ length input
   pub ready : Ready to after
 
--- the replay that the loop holds
-abbrev pub state : Book → ℕ → ℕ → Bool → Replay
-state book row at intact = record { book = book; row = row; at = at; intact = intact }
+-- the replay that the loop holds, with the positions put back
+abbrev pub state : Replay → List Held → Replay
+state replay held = record { book = rejoined replay.book held; row = replay.row; waiting = replay.waiting }
 
 abbrev pub invariant-loop-series : goal.invariant-loop-series
 invariant-loop-series g l =
-    (length l.out ≡ length l.initial.out) × (length l.book.series ≡ series_room) × (length l.held ≡ series_room)
-    × UpTo (dates_of l.calendar) l.input (state l.initial.book l.initial.row l.initial.at l.initial.intact) l.initial.out (state (rejoined l.book l.held) l.row l.at l.intact) l.from l.out
+    (length l.out ≡ length l.initial.out) × (length l.replay.book.series ≡ series_room) × (length l.held ≡ series_room)
+    × UpTo (dates_of l.calendar) l.input l.initial.replay l.initial.out (state l.replay l.held) l.from l.out
 
 abbrev pub decreases-loop-series : goal.decreases-loop-series
 decreases-loop-series g l = length l.input - l.from
