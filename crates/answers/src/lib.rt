@@ -8,7 +8,7 @@ ghost use Rattle.series.specs.Refusals.{number};
 ghost use Rattle.book.specs.Answers as rule;
 ghost use Rattle.report.specs.Report.{is_session};
 
-use book::state::{Answer, Event, Found, Period};
+use book::state::{Answer, Event};
 use series::refusal::Refusal;
 use terms::refusals;
 
@@ -50,36 +50,36 @@ pub fn answer_number(answer: Answer) -> u64
 }
 
 // The series that a refusal names.
-fn named_by(why: Refusal) -> Found
+fn named_by(why: Refusal) -> Option<u8>
     ensures { result ≡ rule.named_by why }
 {
     match why {
-        Refusal::NoMark(i) => Found::At(i),
-        _ => Found::Nothing,
+        Refusal::NoMark(i) => Some(i),
+        _ => None,
     }
 }
 
 // The series that an answer names.
-pub fn named(answer: Answer) -> Found
+pub fn named(answer: Answer) -> Option<u8>
     ensures { result ≡ rule.named answer }
 {
     match answer {
-        Answer::Done => Found::Nothing,
-        Answer::Listed(i) => Found::At(i),
-        Answer::Traded(_) => Found::Nothing,
+        Answer::Done => None,
+        Answer::Listed(i) => Some(i),
+        Answer::Traded(_) => None,
         Answer::Refused(why) => named_by(why),
     }
 }
 
 // The period that an answer tells.
-pub fn period(answer: Answer) -> Period
+pub fn period(answer: Answer) -> Option<u8>
     ensures { result ≡ rule.period_told answer }
 {
     match answer {
-        Answer::Done => Period::Untold,
-        Answer::Listed(_) => Period::Untold,
-        Answer::Traded(p) => Period::In(p),
-        Answer::Refused(_) => Period::Untold,
+        Answer::Done => None,
+        Answer::Listed(_) => None,
+        Answer::Traded(p) => Some(p),
+        Answer::Refused(_) => None,
     }
 }
 

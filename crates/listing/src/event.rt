@@ -8,7 +8,6 @@ use crate::verdict::list_verdict;
 use book::state::{Answer, Book, Event, Step, Today};
 use refusing::refused;
 use series::event::NewSeries;
-use series::refusal::Verdict;
 use series::state::Listing;
 use terms::bounds::ACCOUNTS;
 
@@ -24,7 +23,7 @@ pub fn list(mut book: Book, new: NewSeries) -> Step
         trades: book.trades,
         intraday_done: book.intraday_done,
     };
-    if let Verdict::Refused(why) = list_verdict(today, new) {
+    if let Err(why) = list_verdict(today, new) {
         return refused(book, why);
     }
     let option = new.option;

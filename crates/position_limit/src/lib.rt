@@ -53,10 +53,10 @@ pub fn limit(positions: &[i32; PLACES], deal: Deal) -> Verdict
 {
     let quantity = deal.quantity as i64;
     if passes_limit(positions, deal.buyer, deal.buyer_section, quantity) {
-        return Verdict::Refused(Refusal::PositionLimit);
+        return Err(Refusal::PositionLimit);
     }
     if passes_limit(positions, deal.seller, deal.seller_section, -quantity) {
-        return Verdict::Refused(Refusal::PositionLimit);
+        return Err(Refusal::PositionLimit);
     }
-    Verdict::Allowed
+    Ok(())
 }

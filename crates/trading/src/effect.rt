@@ -8,7 +8,6 @@ use book::state::{Effect, Today};
 use margin::trade::Trade;
 use places::PLACES;
 use series::event::Deal;
-use series::refusal::Verdict;
 use series::state::Listing;
 use trade_verdict::trade_verdict;
 
@@ -24,7 +23,7 @@ pub fn trade(today: Today, listing: Listing, positions: &[i32; PLACES], deal: De
     requires { deal.series < today.listed → 0 < listing.tick }
     ensures { result ≡ rule.by_verdict (Traded (record_of today.intraday_done deal)) (trade_verdict today listing positions.now deal) }
 {
-    if let Verdict::Refused(why) = trade_verdict(today, listing, positions, deal) {
+    if let Err(why) = trade_verdict(today, listing, positions, deal) {
         return Effect::Refused(why);
     }
     let t = Trade {

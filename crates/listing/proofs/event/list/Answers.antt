@@ -15,8 +15,8 @@ allowed : (c : In_default) → ListAllowed (today_of c.args.book) c.args.new
 allowed c =
     list_allowed (today_of c.args.book) c.args.new (sym c.list_verdict.ensures ∙ c.in_default.is)
 
-pub returns-in-Refused : goal.returns-in-Refused
-returns-in-Refused c = by_refusal _ (List c.args.new) c.refused.ensures (verdict_is c.list_verdict.ensures c.in-Refused.is)
+pub returns-in-Err : goal.returns-in-Err
+returns-in-Err c = by_refusal _ (List c.args.new) c.refused.ensures (verdict_is c.list_verdict.ensures c.in-Err.is)
 
 pub overflow_cast-listing : goal.overflow_cast-listing
 overflow_cast-listing c = omega (arith, (allowed c.before).strike_most)
