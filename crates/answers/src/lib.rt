@@ -12,7 +12,7 @@ use book::state::{Answer, Event};
 use series::refusal::Refusal;
 use terms::refusals;
 
-// The number of a refusal.
+// The number of a refusal. No conversion by From: the refusals stand in a crate of rules, which has no impl.
 fn refusal_number(why: Refusal) -> u64
     ensures { result ≡ number why }
 {
@@ -84,16 +84,9 @@ pub fn period(answer: Answer) -> Option<u8>
 }
 
 // Whether an event is a session: others have their answer's line alone.
+#[tactic(auto, using(crate::proofs::Sessions::session, crate::proofs::Sessions::no_session))]
 pub fn is_session(event: Event) -> bool
     ensures { result ≡ is_session event }
 {
-    match event {
-        Event::List(_) => false,
-        Event::Trade(_) => false,
-        Event::Exercise(_) => false,
-        Event::Decline(_) => false,
-        Event::Mark(_) => false,
-        Event::Intraday => true,
-        Event::Evening => true,
-    }
+    matches!(event, Event::Intraday | Event::Evening)
 }

@@ -10,7 +10,7 @@ use mark_verdict::mark_verdict;
 use series::event::Quote;
 use series::state::Listing;
 
-// What a mark does, or why it is refused.
+// What a mark does, or why it is refused. It is made only once the verdict allows it: then its numbers fit.
 pub fn mark(today: Today, listing: Listing, quote: Quote) -> Effect
     ensures { result ≡ rule.by_verdict (Marked (mark_of listing.tick quote)) (mark_verdict today listing quote) }
 {

@@ -1,4 +1,5 @@
-// Whether a request to exercise or a decline may be made: the conditions, tested in the order of the rule.
+// Whether a request to exercise or a decline may be made: the conditions, tested in the order of the rule. The tests that both begin with
+// stand in both, so that each chain is read beside that of its rule.
 #![tactic(auto)]
 
 ghost use Rattle.std.specs.Prelude.{◌≡◌, ◌<◌};

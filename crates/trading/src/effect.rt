@@ -18,7 +18,7 @@ fn period_of(intraday_done: bool) -> u8
     if intraday_done { 2 } else { 1 }
 }
 
-// What a trade does, or why it is refused.
+// What a trade does, or why it is refused. It is made only once the verdict allows it: then its numbers fit.
 pub fn trade(today: Today, listing: Listing, positions: &[i32; PLACES], deal: Deal) -> Effect
     requires { deal.series < today.listed → 0 < listing.tick }
     ensures { result ≡ rule.by_verdict (Traded (record_of today.intraday_done deal)) (trade_verdict today listing positions.now deal) }
