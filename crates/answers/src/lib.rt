@@ -8,11 +8,11 @@ ghost use Rattle.series.specs.Refusals.{number};
 ghost use Rattle.book.specs.Answers as rule;
 ghost use Rattle.report.specs.Report.{is_session};
 
-use book::state::{Answer, Event, Found, Period};
+use book::state::{Answer, Event};
 use series::refusal::Refusal;
 use terms::refusals;
 
-// The number of a refusal.
+// The number of a refusal. No conversion by From: the refusals stand in a crate of rules, which has no impl.
 fn refusal_number(why: Refusal) -> u64
     ensures { result ≡ number why }
 {
@@ -50,50 +50,43 @@ pub fn answer_number(answer: Answer) -> u64
 }
 
 // The series that a refusal names.
-fn named_by(why: Refusal) -> Found
+fn named_by(why: Refusal) -> Option<u8>
     ensures { result ≡ rule.named_by why }
 {
     match why {
-        Refusal::NoMark(i) => Found::At(i),
-        _ => Found::Nothing,
+        Refusal::NoMark(i) => Some(i),
+        _ => None,
     }
 }
 
 // The series that an answer names.
-pub fn named(answer: Answer) -> Found
+pub fn named(answer: Answer) -> Option<u8>
     ensures { result ≡ rule.named answer }
 {
     match answer {
-        Answer::Done => Found::Nothing,
-        Answer::Listed(i) => Found::At(i),
-        Answer::Traded(_) => Found::Nothing,
+        Answer::Done => None,
+        Answer::Listed(i) => Some(i),
+        Answer::Traded(_) => None,
         Answer::Refused(why) => named_by(why),
     }
 }
 
 // The period that an answer tells.
-pub fn period(answer: Answer) -> Period
+pub fn period(answer: Answer) -> Option<u8>
     ensures { result ≡ rule.period_told answer }
 {
     match answer {
-        Answer::Done => Period::Untold,
-        Answer::Listed(_) => Period::Untold,
-        Answer::Traded(p) => Period::In(p),
-        Answer::Refused(_) => Period::Untold,
+        Answer::Done => None,
+        Answer::Listed(_) => None,
+        Answer::Traded(p) => Some(p),
+        Answer::Refused(_) => None,
     }
 }
 
 // Whether an event is a session: others have their answer's line alone.
+#[tactic(auto, using(crate::proofs::Sessions::session, crate::proofs::Sessions::no_session))]
 pub fn is_session(event: Event) -> bool
     ensures { result ≡ is_session event }
 {
-    match event {
-        Event::List(_) => false,
-        Event::Trade(_) => false,
-        Event::Exercise(_) => false,
-        Event::Decline(_) => false,
-        Event::Mark(_) => false,
-        Event::Intraday => true,
-        Event::Evening => true,
-    }
+    matches!(event, Event::Intraday | Event::Evening)
 }

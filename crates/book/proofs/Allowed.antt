@@ -1,5 +1,7 @@
 -- What an event that the book allows meets: the conditions under which it would have been refused all fail.
-use mathlib.Core.Path.{◌≡◌, refl}
+use Rattle.std.proofs.lemmas.Option.{none-some}
+use Rattle.std.specs.Prelude.{Option, Some, None, Ok, Err}
+use mathlib.Core.Path.{◌≡◌, refl, sym}
 use mathlib.Core.Logic.{◌≢◌}
 use mathlib.Core.Bool.{Bool, true, false, ◌&&◌, not}
 use mathlib.Core.List as list
@@ -21,40 +23,37 @@ use Rattle.series.specs.declared.event.Request.{Request}
 use Rattle.series.specs.declared.event.Waiver.{Waiver}
 use Rattle.series.specs.declared.event.Quote.{Quote}
 use Rattle.series.specs.declared.refusal.Refusal.{Refusal}
-use Rattle.series.specs.declared.refusal.Verdict.{Verdict}
-use Rattle.series.specs.declared.refusal.Verdict.TheVariants.{Allowed, Refused}
+use Rattle.series.specs.Refusals.{Verdict}
 use Rattle.series.specs.declared.state.Listing.{Listing}
 use Rattle.book.specs.State.{series_at, live, today_of}
 use Rattle.book.specs.Verdicts.{and_then, parties_verdict, price_verdict, list_verdict, trade_verdict, exercise_verdict, decline_verdict, mark_verdict, lacks_mark, first_from, first_unmarked, needs_mark, verdict_of}
 use Rattle.book.specs.declared.state.Book.{Book}
 use Rattle.book.specs.declared.state.Event.TheVariants.{List, Trade, Exercise, Decline, Mark, Intraday, Evening}
-use Rattle.book.specs.declared.state.Found.{Found}
-use Rattle.book.specs.declared.state.Found.TheVariants.{At, Nothing}
 use Rattle.book.specs.declared.state.Today.{Today}
 use Rattle.book.proofs.Live.{live_yes, false_not_true}
 
-pub refused_not_allowed : {why : Refusal} → Refused why ≡ Allowed → ⊥
+pub refused_not_allowed : {why : Refusal} → ◌≡◌ {A = Verdict} (Err why) (Ok tt) → ⊥
 refused_not_allowed e = let z : ◌≡◌ {A = ℕ} 0 1 = cc in omega arith
 
--- one condition of a chain that ends in Allowed: it fails, and the rest of the chain ends in Allowed
+-- one condition of a chain that ends in Ok: it fails, and the rest of the chain ends in Ok
 record Passed (t : Bool) (v : Verdict) : Type 0 where
   pub failed : t ≡ false
-  pub rest : v ≡ Allowed
+  pub rest : v ≡ Ok tt
 
-passed : (t : Bool) (why : Refusal) (v : Verdict) → choose t (Refused why) v ≡ Allowed → Passed t v
+passed : (t : Bool) (why : Refusal) (v : Verdict) → choose t (Err why) v ≡ Ok tt → Passed t v
 unfolding choose
 passed true why v e = absurd (refused_not_allowed e)
 passed false why v e = record { failed = refl; rest = e }
 
--- two groups of conditions that end in Allowed: each does
+-- two groups of conditions that end in Ok: each does
 record BothPassed (v w : Verdict) : Type 0 where
-  pub first : v ≡ Allowed
-  pub rest : w ≡ Allowed
+  pub first : v ≡ Ok tt
+  pub rest : w ≡ Ok tt
 
-both_passed : (v w : Verdict) → and_then v w ≡ Allowed → BothPassed v w
+both_passed : (v w : Verdict) → and_then v w ≡ Ok tt → BothPassed v w
 unfolding and_then
-both_passed Allowed w e = record { first = refl; rest = e }
-both_passed (Refused why) w e = absurd (refused_not_allowed e)
+both_passed (Ok tt) w e = record { first = refl; rest = e }
+both_passed (Err why) w e = absurd (refused_not_allowed e)
 
 -- ---- a listing
 pub record ListAllowed (t : Today) (n : NewSeries) : Type 0 where
@@ -67,7 +66,7 @@ pub record ListAllowed (t : Today) (n : NewSeries) : Type 0 where
   pub last_most : n.last_day ≤ final_day
   pub room : t.listed < series_room
 
-pub list_allowed : (t : Today) (n : NewSeries) → list_verdict t n ≡ Allowed → ListAllowed t n
+pub list_allowed : (t : Today) (n : NewSeries) → list_verdict t n ≡ Ok tt → ListAllowed t n
 list_allowed t n e =
     let p1 = passed _ _ _ e in
     let p2 = passed _ _ _ p1.rest in
@@ -100,7 +99,7 @@ pub record PartiesAllowed (d : Deal) : Type 0 where
   pub seller_section : d.seller_section < sections
   pub apart : d.buyer ≢ d.seller
 
-pub parties_allowed : (d : Deal) → parties_verdict d ≡ Allowed → PartiesAllowed d
+pub parties_allowed : (d : Deal) → parties_verdict d ≡ Ok tt → PartiesAllowed d
 parties_allowed d e =
     let p1 = passed _ _ _ e in
     let p2 = passed _ _ _ p1.rest in
@@ -120,7 +119,7 @@ pub record PriceAllowed (tick : ℕ) (d : Deal) : Type 0 where
   pub price : d.price ≤ max_option_price
   pub whole_ticks : d.price % tick ≡ 0
 
-pub price_allowed : (tick : ℕ) (d : Deal) → price_verdict tick d ≡ Allowed → PriceAllowed tick d
+pub price_allowed : (tick : ℕ) (d : Deal) → price_verdict tick d ≡ Ok tt → PriceAllowed tick d
 price_allowed tick d e =
     let p1 = passed _ _ _ e in
     let p2 = passed _ _ _ p1.rest in
@@ -149,7 +148,7 @@ pub record TradeAllowed (t : Today) (l : Listing) (positions : list.List ℤ) (d
   pub seller_limit : gross_after positions d.seller d.seller_section (neg_ℤ (pos d.quantity)) ≤ max_position
   pub room : t.trades < blotter_room
 
-pub trade_allowed : (t : Today) (l : Listing) (positions : list.List ℤ) (d : Deal) → trade_verdict t l positions d ≡ Allowed → TradeAllowed t l positions d
+pub trade_allowed : (t : Today) (l : Listing) (positions : list.List ℤ) (d : Deal) → trade_verdict t l positions d ≡ Ok tt → TradeAllowed t l positions d
 trade_allowed t l positions d e =
     let p1 = passed _ _ _ e in
     let p2 = passed _ _ _ p1.rest in
@@ -188,7 +187,7 @@ pub record RequestAllowed (t : Today) (l : Listing) (positions : list.List ℤ) 
   pub in_time : too_early l.category t.day l.last_day ≡ false
   pub held : r.quantity ≤ held (position_in positions r.account r.section)
 
-pub exercise_allowed : (t : Today) (l : Listing) (positions : list.List ℤ) (r : Request) → exercise_verdict t l positions r ≡ Allowed
+pub exercise_allowed : (t : Today) (l : Listing) (positions : list.List ℤ) (r : Request) → exercise_verdict t l positions r ≡ Ok tt
     → RequestAllowed t l positions r
 exercise_allowed t l positions r e =
     let p1 = passed _ _ _ e in
@@ -215,7 +214,7 @@ pub record DeclineAllowed (t : Today) (l : Listing) (w : Waiver) : Type 0 where
   pub section : w.section < sections
   pub in_time : l.last_day ≤ t.day
 
-pub decline_allowed : (t : Today) (l : Listing) (w : Waiver) → decline_verdict t l w ≡ Allowed → DeclineAllowed t l w
+pub decline_allowed : (t : Today) (l : Listing) (w : Waiver) → decline_verdict t l w ≡ Ok tt → DeclineAllowed t l w
 decline_allowed t l w e =
     let p1 = passed _ _ _ e in
     let p2 = passed _ _ _ p1.rest in
@@ -242,7 +241,7 @@ pub record MarkAllowed (t : Today) (l : Listing) (q : Quote) : Type 0 where
   pub coefficient_least : 1 ≤ coefficient_of q.tick_value l.tick
   pub coefficient : coefficient_of q.tick_value l.tick ≤ max_tick_value
 
-pub mark_allowed : (t : Today) (l : Listing) (q : Quote) → mark_verdict t l q ≡ Allowed → MarkAllowed t l q
+pub mark_allowed : (t : Today) (l : Listing) (q : Quote) → mark_verdict t l q ≡ Ok tt → MarkAllowed t l q
 mark_allowed t l q e =
     let p1 = passed _ _ _ e in
     let p2 = passed _ _ _ p1.rest in
@@ -278,19 +277,19 @@ abbrev pub CanMark : Book → Quote → Type 0
 CanMark b q = MarkAllowed (today_of b) (series_at b q.series).listing q
 
 module _ (b : Book) where
-  pub allowed_list : (n : NewSeries) → verdict_of b (List n) ≡ Allowed → ListAllowed (today_of b) n
+  pub allowed_list : (n : NewSeries) → verdict_of b (List n) ≡ Ok tt → ListAllowed (today_of b) n
   allowed_list n e = list_allowed (today_of b) n e
 
-  pub allowed_trade : (d : Deal) → verdict_of b (Trade d) ≡ Allowed → CanTrade b d
+  pub allowed_trade : (d : Deal) → verdict_of b (Trade d) ≡ Ok tt → CanTrade b d
   allowed_trade d e = trade_allowed (today_of b) (series_at b d.series).listing (series_at b d.series).positions d e
 
-  pub allowed_exercise : (r : Request) → verdict_of b (Exercise r) ≡ Allowed → CanExercise b r
+  pub allowed_exercise : (r : Request) → verdict_of b (Exercise r) ≡ Ok tt → CanExercise b r
   allowed_exercise r e = exercise_allowed (today_of b) (series_at b r.series).listing (series_at b r.series).positions r e
 
-  pub allowed_decline : (w : Waiver) → verdict_of b (Decline w) ≡ Allowed → CanDecline b w
+  pub allowed_decline : (w : Waiver) → verdict_of b (Decline w) ≡ Ok tt → CanDecline b w
   allowed_decline w e = decline_allowed (today_of b) (series_at b w.series).listing w e
 
-  pub allowed_mark : (q : Quote) → verdict_of b (Mark q) ≡ Allowed → CanMark b q
+  pub allowed_mark : (q : Quote) → verdict_of b (Mark q) ≡ Ok tt → CanMark b q
   allowed_mark q e = mark_allowed (today_of b) (series_at b q.series).listing q e
 
 -- ---- sessions
@@ -298,16 +297,13 @@ module _ (b : Book) where
 abbrev pub AllMarked : Book → Type 0
 AllMarked b = (i : ℕ) → live b i ≡ true → (series_at b i).mark.made ≡ true
 
-at_not_nothing : {i : ℕ} → At i ≡ Nothing → ⊥
-at_not_nothing e = let z : ◌≡◌ {A = ℕ} 0 1 = cc in omega arith
-
-none_found : (f : Found) → needs_mark f ≡ Allowed → f ≡ Nothing
+none_found : (f : Option ℕ) → needs_mark f ≡ Ok tt → f ≡ None
 unfolding needs_mark
-none_found (At i) e = absurd (refused_not_allowed e)
-none_found Nothing e = refl
+none_found (Some i) e = absurd (refused_not_allowed e)
+none_found None e = refl
 
 -- where the search comes to its end, no series of its range lacks a mark
-none_lacks : (b : Book) (n i : ℕ) → first_from b n i ≡ Nothing → (k : ℕ) → i ≤ k → k < i + n → lacks_mark b k ≡ false
+none_lacks : (b : Book) (n i : ℕ) → first_from b n i ≡ None → (k : ℕ) → i ≤ k → k < i + n → lacks_mark b k ≡ false
 unfolding first_from choose
 none_lacks b zero i e k le lt = absurd (none le lt)
   where
@@ -315,9 +311,9 @@ none_lacks b zero i e k le lt = absurd (none le lt)
     none le lt = omega arith
 none_lacks b (suc n) i e k le lt = by (lacks_mark b i) refl e (λ r l. none_lacks b n (suc i) r k l (omega arith)) (ℕ_discrete k i)
   where
-    by : (t : Bool) → lacks_mark b i ≡ t → choose t (At i) (first_from b n (suc i)) ≡ Nothing
-        → (first_from b n (suc i) ≡ Nothing → suc i ≤ k → lacks_mark b k ≡ false) → Dec (k ≡ i) → lacks_mark b k ≡ false
-    by true s r ih d = absurd (at_not_nothing r)
+    by : (t : Bool) → lacks_mark b i ≡ t → choose t (Some i) (first_from b n (suc i)) ≡ None
+        → (first_from b n (suc i) ≡ None → suc i ≤ k → lacks_mark b k ≡ false) → Dec (k ≡ i) → lacks_mark b k ≡ false
+    by true s r ih d = absurd (none-some _ (sym r))
     by false s r ih (yes q) = rw q s
     by false s r ih (no q) = ih r (omega arith)
 
@@ -325,7 +321,7 @@ marked_if : (t m : Bool) → (t && not m) ≡ false → t ≡ true → m ≡ tru
 marked_if true m e l = not-false m e
 marked_if false m e l = absurd (false_not_true l)
 
-pub all_marked : (b : Book) → needs_mark (first_unmarked b) ≡ Allowed → AllMarked b
+pub all_marked : (b : Book) → needs_mark (first_unmarked b) ≡ Ok tt → AllMarked b
 all_marked b e i l =
     marked_if (live b i) (series_at b i).mark.made
     (none_lacks b b.listed 0 (none_found (first_unmarked b) e) i (omega arith) (omega (arith, (live_yes b i l).listed))) l
@@ -335,7 +331,7 @@ pub record CanIntraday (b : Book) : Type 0 where
   pub first : b.intraday_done ≡ false
   pub marked : AllMarked b
 
-pub allowed_intraday : (b : Book) → verdict_of b Intraday ≡ Allowed → CanIntraday b
+pub allowed_intraday : (b : Book) → verdict_of b Intraday ≡ Ok tt → CanIntraday b
 allowed_intraday b e =
     let p1 = passed _ _ _ e in
     let p2 = passed _ _ _ p1.rest in
@@ -345,7 +341,7 @@ pub record CanEvening (b : Book) : Type 0 where
   pub day : b.day ≤ final_day
   pub marked : AllMarked b
 
-pub allowed_evening : (b : Book) → verdict_of b Evening ≡ Allowed → CanEvening b
+pub allowed_evening : (b : Book) → verdict_of b Evening ≡ Ok tt → CanEvening b
 allowed_evening b e =
     let p1 = passed _ _ _ e in
     record { day = ltb-false final_day b.day p1.failed; marked = all_marked b p1.rest }

@@ -1,4 +1,5 @@
 -- Sessions with no live series, and series without an intraday session (RULES, "Events" and "Evening session").
+use Rattle.std.specs.Prelude.{None, Ok, Err}
 use mathlib.Core.Path.{◌≡◌, refl, sym, ap, ◌∙◌}
 use mathlib.Core.Logic.{◌≢◌}
 use mathlib.Core.Bool.{false}
@@ -12,8 +13,7 @@ use Rattle.integer.specs.Table.{table}
 use Rattle.integer.proofs.Sum.{sum_ext, sum_0}
 use Rattle.integer.proofs.Table.{table_ext, replicate_table}
 use Rattle.terms.specs.Bounds.{accounts, series_room, final_day}
-use Rattle.series.specs.declared.refusal.Verdict.{Verdict}
-use Rattle.series.specs.declared.refusal.Verdict.TheVariants.{Allowed, Refused}
+use Rattle.series.specs.Refusals.{Verdict}
 use Rattle.book.specs.Good.{Good}
 use Rattle.book.specs.Sessions.{over_live, intraday_money_in, evening_money_in, intraday_money, evening_money, intraday_paid}
 use Rattle.book.specs.State.{live, no_money}
@@ -24,7 +24,6 @@ use Rattle.book.specs.declared.state.Answer.TheVariants as answer
 use Rattle.book.specs.declared.state.Book.{Book}
 use Rattle.book.specs.declared.state.Event.{Event}
 use Rattle.book.specs.declared.state.Event.TheVariants.{List, Trade, Exercise, Decline, Mark, Intraday, Evening}
-use Rattle.book.specs.declared.state.Found.TheVariants.{Nothing}
 use Rattle.book.specs.declared.state.Step.{Step}
 use Rattle.book.proofs.Allowed.{allowed_list}
 use Rattle.book.proofs.Live.{live_unlisted}
@@ -42,7 +41,7 @@ pub record PaysNothing (st : Step) : Type 0 where
   pub money : st.money ≡ no_money
 
 -- no series lacks a mark
-none_lacks : (b : Book) → NoneLive b → (n i : ℕ) → first_from b n i ≡ Nothing
+none_lacks : (b : Book) → NoneLive b → (n i : ℕ) → first_from b n i ≡ None
 unfolding first_from choose
 none_lacks b none zero i = refl
 none_lacks b none (suc n) i = rw (none i) (none_lacks b none n (suc i))
@@ -56,11 +55,11 @@ no_money_lem : (f : ℕ → ℤ) → ((a : ℕ) → f a ≡ pos 0) → table acc
 no_money_lem f e = table_ext accounts _ _ (λ a _. e a) ∙ sym (replicate_table accounts (pos 0))
 
 module _ (b : Book) (open-day : b.day ≤ final_day) (none : NoneLive b) where
-  intraday_allowed : b.intraday_done ≡ false → verdict_of b Intraday ≡ Allowed
+  intraday_allowed : b.intraday_done ≡ false → verdict_of b Intraday ≡ Ok tt
   intraday_allowed first =
       sym (past _ (le-ltb final_day b.day open-day) (past _ first (none_missing refl (none_lacks b none b.listed 0))))
 
-  evening_allowed : verdict_of b Evening ≡ Allowed
+  evening_allowed : verdict_of b Evening ≡ Ok tt
   evening_allowed = sym (past _ (le-ltb final_day b.day open-day) (none_missing refl (none_lacks b none b.listed 0)))
 
   pub intraday_pays_nothing : b.intraday_done ≡ false → PaysNothing (step_of b Intraday)
@@ -96,7 +95,7 @@ listed_since b g e i p a lt = by (verdict_of b e) refl p
     other : suc i ≡ i → ⊥
     other q = omega arith
 
-    carried : (e : Event) → verdict_of b e ≡ Allowed → (carried_out b e).answer ≡ answer.Listed i → intraday_paid (carried_out b e).book i a ≡ pos 0
+    carried : (e : Event) → verdict_of b e ≡ Ok tt → (carried_out b e).answer ≡ answer.Listed i → intraday_paid (carried_out b e).book i a ≡ pos 0
     carried (List n) v q =
         rw (← ap number q) (g.paid_live b.listed a (allowed_list b n v).room lt (live_unlisted b b.listed (omega arith)))
     carried (Trade d) v r = absurd (other (ap number r))
@@ -107,8 +106,8 @@ listed_since b g e i p a lt = by (verdict_of b e) refl p
     carried Evening v r = absurd (other (ap number r))
 
     by : (v : Verdict) → verdict_of b e ≡ v → (decided b e v).answer ≡ answer.Listed i → intraday_paid (decided b e v).book i a ≡ pos 0
-    by Allowed v q = carried e v q
-    by (Refused why) v q = absurd (other (ap number q))
+    by (Ok tt) v q = carried e v q
+    by (Err why) v q = absurd (other (ap number q))
 
 -- and no event but a session changes it
 pub only_sessions_pay : (b : Book) (e : Event) → e ≢ Intraday → e ≢ Evening → (step_of b e).book.intraday_paid ≡ b.intraday_paid
@@ -125,5 +124,5 @@ only_sessions_pay b e n m = by (verdict_of b e)
     carried Evening n m = absurd (m refl)
 
     by : (v : Verdict) → (decided b e v).book.intraday_paid ≡ b.intraday_paid
-    by Allowed = carried e n m
-    by (Refused why) = refl
+    by (Ok tt) = carried e n m
+    by (Err why) = refl

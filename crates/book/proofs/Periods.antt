@@ -1,4 +1,5 @@
 -- Which period it is after an event, what a trade's record and answer say of it, and that records of the day stand (RULES, "Events").
+use Rattle.std.specs.Prelude.{Some, None, Ok, Err}
 use mathlib.Core.Path.{◌≡◌, refl, sym, ap, ◌∙◌}
 use mathlib.Core.Logic.{◌≢◌}
 use mathlib.Core.Bool.{Bool, true, false}
@@ -9,8 +10,7 @@ use lib.Seq.{get_or-set_same, get_or-set_other}
 use Rattle.choice.specs.Choice.{choose}
 use Rattle.margin.specs.Margin.{no_trade}
 use Rattle.series.specs.declared.event.Deal.{Deal}
-use Rattle.series.specs.declared.refusal.Verdict.{Verdict}
-use Rattle.series.specs.declared.refusal.Verdict.TheVariants.{Allowed, Refused}
+use Rattle.series.specs.Refusals.{Verdict}
 use Rattle.book.specs.Answers.{answer_number, was_carried_out, period_told}
 use Rattle.book.specs.Good.{Good}
 use Rattle.book.specs.State.{trade_at}
@@ -20,7 +20,6 @@ use Rattle.book.specs.declared.state.Answer.TheVariants as answer
 use Rattle.book.specs.declared.state.Book.{Book}
 use Rattle.book.specs.declared.state.Event.{Event}
 use Rattle.book.specs.declared.state.Event.TheVariants.{List, Trade, Exercise, Decline, Mark, Intraday, Evening}
-use Rattle.book.specs.declared.state.Period.TheVariants.{In, Untold}
 use Rattle.book.specs.declared.state.Step.{Step}
 use Rattle.book.proofs.Allowed.{allowed_trade}
 use Rattle.book.proofs.Decided.{carried_answer}
@@ -68,8 +67,8 @@ over_after_lem b e = by (verdict_of b e)
     carried Evening = refl
 
     by : (v : Verdict) → (decided b e v).book.intraday_done ≡ over_after e (was_carried_out (decided b e v).answer) b.intraday_done
-    by Allowed = rw (carried_answer b e) (carried e)
-    by (Refused why) = refl
+    by (Ok tt) = rw (carried_answer b e) (carried e)
+    by (Err why) = refl
 
 -- an event that leaves it is no session of that kind
 pub no_intraday : (e : Event) → over_after e true false ≡ false → e ≢ Intraday
@@ -85,7 +84,7 @@ pub record Joined (b : Book) (d : Deal) (st : Step) : Type 0 where
   pub entry : trade_at st.book b.trades ≡ record_of b.intraday_done d
   pub answer : st.answer ≡ answer.Traded (period_of b.intraday_done)
   pub number : answer_number st.answer ≡ 0
-  pub told : period_told st.answer ≡ In (period_of b.intraday_done)
+  pub told : period_told st.answer ≡ Some (period_of b.intraday_done)
   pub counted : b.trades < st.book.trades
 
 pub trade_joined : (b : Book) → Good b → (d : Deal) → T (was_carried_out (step_of b (Trade d)).answer) → Joined b d (step_of b (Trade d))
@@ -93,7 +92,7 @@ unfolding decided was_carried_out answer_number period_told
 trade_joined b g d = by (verdict_of b (Trade d)) refl
   where
     by : (v : Verdict) → verdict_of b (Trade d) ≡ v → T (was_carried_out (decided b (Trade d) v).answer) → Joined b d (decided b (Trade d) v)
-    by Allowed v t =
+    by (Ok tt) v t =
         record {
           entry = get_or-set_same b.blotter b.trades (record_of b.intraday_done d) no_trade (omega (arith, g.blotter_long, (allowed_trade b d v).room));
           answer = refl;
@@ -101,14 +100,14 @@ trade_joined b g d = by (verdict_of b (Trade d)) refl
           told = refl;
           counted = omega arith;
         }
-    by (Refused why) v t = absurd t
+    by (Err why) v t = absurd t
 
 -- ---- no other answer tells a period: none of an event that is no trade, none of an event that is refused
-pub others_tell_none : (b : Book) (e : Event) → ((d : Deal) → e ≢ Trade d) → period_told (step_of b e).answer ≡ Untold
+pub others_tell_none : (b : Book) (e : Event) → ((d : Deal) → e ≢ Trade d) → period_told (step_of b e).answer ≡ None
 unfolding decided period_told
 others_tell_none b e m = by (verdict_of b e)
   where
-    carried : (e : Event) → ((d : Deal) → e ≢ Trade d) → period_told (carried_out b e).answer ≡ Untold
+    carried : (e : Event) → ((d : Deal) → e ≢ Trade d) → period_told (carried_out b e).answer ≡ None
     carried (List n) m = refl
     carried (Trade d) m = absurd (m d refl)
     carried (Exercise r) m = refl
@@ -117,17 +116,17 @@ others_tell_none b e m = by (verdict_of b e)
     carried Intraday m = refl
     carried Evening m = refl
 
-    by : (v : Verdict) → period_told (decided b e v).answer ≡ Untold
-    by Allowed = carried e m
-    by (Refused why) = refl
+    by : (v : Verdict) → period_told (decided b e v).answer ≡ None
+    by (Ok tt) = carried e m
+    by (Err why) = refl
 
-pub refusals_tell_none : (b : Book) (e : Event) → was_carried_out (step_of b e).answer ≡ false → period_told (step_of b e).answer ≡ Untold
+pub refusals_tell_none : (b : Book) (e : Event) → was_carried_out (step_of b e).answer ≡ false → period_told (step_of b e).answer ≡ None
 unfolding decided period_told
 refusals_tell_none b e = by (verdict_of b e)
   where
-    by : (v : Verdict) → was_carried_out (decided b e v).answer ≡ false → period_told (decided b e v).answer ≡ Untold
-    by Allowed h = absurd (false_not_true (sym h ∙ carried_answer b e))
-    by (Refused why) h = refl
+    by : (v : Verdict) → was_carried_out (decided b e v).answer ≡ false → period_told (decided b e v).answer ≡ None
+    by (Ok tt) h = absurd (false_not_true (sym h ∙ carried_answer b e))
+    by (Err why) h = refl
 
 -- ---- a record of the day stands: an event that is no evening, or is refused, leaves it where it is
 pub record Stands (b c : Book) (k : ℕ) : Type 0 where
@@ -153,5 +152,5 @@ record_stands b e none k lt = by (verdict_of b e) none
     carried Evening m = absurd (m refl)
 
     by : (v : Verdict) → (e ≡ Evening → T (was_carried_out (decided b e v).answer) → ⊥) → Stands b (decided b e v).book k
-    by Allowed m = carried e (λ q. m q (rw (carried_answer b e) tt))
-    by (Refused why) m = record { today = lt; same = refl }
+    by (Ok tt) m = carried e (λ q. m q (rw (carried_answer b e) tt))
+    by (Err why) m = record { today = lt; same = refl }

@@ -8,12 +8,13 @@ ghost use Rattle.book.specs.Good.{Good};
 ghost use Rattle.book.specs.State.{empty_book};
 ghost use Rattle.book.specs.Step.{step_of};
 
-use book::state::{Book, Event, Step, Today};
+use book::state::{Book, Event, Step};
 use listing::change::new_series;
 use margin::trade::Trade;
 use series::state::Listing;
 use terms::bounds::{ACCOUNTS, BLOTTER, SERIES};
 use terms::{Category, OptionType};
+use today::today_of;
 
 // A book at day 0, with no series and all else 0.
 pub fn empty() -> Book
@@ -61,12 +62,7 @@ pub fn step(mut book: Book, event: Event) -> Step
     let mut s = book.series[i];
     let listing = s.listing;
     let mark = s.mark;
-    let today = Today {
-        day: book.day,
-        listed: book.listed,
-        trades: book.trades,
-        intraday_done: book.intraday_done,
-    };
+    let today = today_of(&book);
     let effect = effect::effect(today, listing, &s.positions, event);
     apply::move_positions(&mut s.positions, effect);
     apply::set_request(&mut s.requests, effect);
@@ -82,6 +78,6 @@ pub fn step(mut book: Book, event: Event) -> Step
     Step {
         answer: recording::answer(effect),
         money: [0i64; ACCOUNTS],
-        book: book,
+        book,
     }
 }

@@ -13,7 +13,8 @@ use series::state::Listing;
 use terms::bounds::SERIES;
 use trading::effect::trade;
 
-// The number of the series that an event is on; for an event on none it is past every series.
+// The number of the series that an event is on; for an event on none it is past every series. No Option: the rule `series_of` is that
+// number, and the law `step_stored` speaks of it.
 pub fn series_of(event: Event) -> usize
     ensures { result ≡ rule.series_of event }
 {

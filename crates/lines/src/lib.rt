@@ -6,7 +6,7 @@ ghost use Rattle.decimal.specs.Put.{Put};
 ghost use Rattle.report.specs.Lines as text;
 ghost use Rattle.report.specs.Report as rule;
 
-use book::state::{Found, Period};
+
 use terms::refusals::CALENDAR;
 
 // The line that the output begins with.
@@ -19,7 +19,7 @@ pub fn header(out: &mut [u8], at: usize) -> usize
 }
 
 // The number of an answer, with the series that it names and the period that it tells.
-pub fn answer(out: &mut [u8], at: usize, row: u64, found: Found, told: Period, number: u64) -> usize
+pub fn answer(out: &mut [u8], at: usize, row: u64, found: Option<u8>, told: Option<u8>, number: u64) -> usize
     requires { at + text.line_room ≤ length out.old }
     ensures put { Put out.old at (rule.answer_line row found told number) out.new result }
     ensures upper_bound { result ≤ at + text.line_room }
@@ -38,7 +38,7 @@ pub fn no_calendar(out: &mut [u8]) -> usize
     ensures upper_bound { result ≤ text.line_room + text.line_room }
 {
     let next = header(out, 0);
-    answer(out, next, 0, Found::Nothing, Period::Untold, CALENDAR)
+    answer(out, next, 0, None, None, CALENDAR)
 }
 
 // The money of an account, where it is not 0.

@@ -10,10 +10,9 @@ use series::state::{Listing, Series};
 pub fn new_series(listing: Listing) -> Series
     ensures { result ≡ new_series listing }
 {
-    let mark = no_mark();
     Series {
-        listing: listing,
-        mark: mark,
+        listing,
+        mark: no_mark(),
         evening_price: 0,
         positions: [0i32; PLACES],
         opening: [0i32; PLACES],

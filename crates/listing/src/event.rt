@@ -5,12 +5,12 @@ ghost use Rattle.book.specs.declared.state.Event as happening;
 
 use crate::change;
 use crate::verdict::list_verdict;
-use book::state::{Answer, Book, Event, Step, Today};
+use book::state::{Answer, Book, Event, Step};
 use refusing::refused;
 use series::event::NewSeries;
-use series::refusal::Verdict;
 use series::state::Listing;
 use terms::bounds::ACCOUNTS;
+use today::today_of;
 
 // A listing takes the next series number.
 pub fn list(mut book: Book, new: NewSeries) -> Step
@@ -18,20 +18,13 @@ pub fn list(mut book: Book, new: NewSeries) -> Step
     ensures { result ≡ rule.step_of book (happening.Event.List new) }
 {
     let n = book.listed;
-    let today = Today {
-        day: book.day,
-        listed: n,
-        trades: book.trades,
-        intraday_done: book.intraday_done,
-    };
-    if let Verdict::Refused(why) = list_verdict(today, new) {
+    let today = today_of(&book);
+    if let Err(why) = list_verdict(today, new) {
         return refused(book, why);
     }
-    let option = new.option;
-    let category = new.category;
     let listing = Listing {
-        option: option,
-        category: category,
+        option: new.option,
+        category: new.category,
         strike: new.strike as u32,
         tick: new.tick as u32,
         last_day: new.last_day as u32,
@@ -42,6 +35,6 @@ pub fn list(mut book: Book, new: NewSeries) -> Step
     Step {
         answer: Answer::Listed(n as u8),
         money: [0i64; ACCOUNTS],
-        book: book,
+        book,
     }
 }

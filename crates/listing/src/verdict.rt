@@ -12,28 +12,28 @@ pub fn list_verdict(today: Today, new: NewSeries) -> Verdict
     ensures { result ≡ rule.list_verdict today new }
 {
     if FINAL_DAY < today.day {
-        return Verdict::Refused(Refusal::Finished);
+        return Err(Refusal::Finished);
     }
     if new.strike < 1 {
-        return Verdict::Refused(Refusal::Terms);
+        return Err(Refusal::Terms);
     }
     if MAX_STRIKE < new.strike {
-        return Verdict::Refused(Refusal::Terms);
+        return Err(Refusal::Terms);
     }
     if new.tick < 1 {
-        return Verdict::Refused(Refusal::Terms);
+        return Err(Refusal::Terms);
     }
     if MAX_TICK < new.tick {
-        return Verdict::Refused(Refusal::Terms);
+        return Err(Refusal::Terms);
     }
     if new.last_day < today.day as u64 {
-        return Verdict::Refused(Refusal::Terms);
+        return Err(Refusal::Terms);
     }
     if (FINAL_DAY as u64) < new.last_day {
-        return Verdict::Refused(Refusal::Terms);
+        return Err(Refusal::Terms);
     }
     if SERIES <= today.listed {
-        return Verdict::Refused(Refusal::SeriesFull);
+        return Err(Refusal::SeriesFull);
     }
-    Verdict::Allowed
+    Ok(())
 }

@@ -6,8 +6,5 @@ ghost use Rattle.std.specs.Prelude.{◌≡◌, ◌^◌, ◌≤◌, nat_abs};
 pub fn magnitude(x: i64) -> u64
     ensures { (result ≡ nat_abs x) × (result ≤ 2 ^ 63) }
 {
-    if x < 0 {
-        return (-(x + 1)) as u64 + 1;
-    }
-    x as u64
+    x.unsigned_abs()
 }

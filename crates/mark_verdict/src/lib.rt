@@ -15,32 +15,32 @@ pub fn mark_verdict(today: Today, listing: Listing, quote: Quote) -> Verdict
     ensures { result ≡ rule.mark_verdict today listing quote }
 {
     if FINAL_DAY < today.day {
-        return Verdict::Refused(Refusal::Finished);
+        return Err(Refusal::Finished);
     }
     if today.listed <= quote.series as usize {
-        return Verdict::Refused(Refusal::UnknownSeries);
+        return Err(Refusal::UnknownSeries);
     }
     if listing.last_day < today.day {
-        return Verdict::Refused(Refusal::Expired);
+        return Err(Refusal::Expired);
     }
     if MAX_OPTION_PRICE < quote.option {
-        return Verdict::Refused(Refusal::Price);
+        return Err(Refusal::Price);
     }
     if MAX_FUTURES_PRICE < quote.future {
-        return Verdict::Refused(Refusal::Price);
+        return Err(Refusal::Price);
     }
     if quote.tick_value < 1 {
-        return Verdict::Refused(Refusal::TickValue);
+        return Err(Refusal::TickValue);
     }
     if MAX_TICK_VALUE < quote.tick_value {
-        return Verdict::Refused(Refusal::TickValue);
+        return Err(Refusal::TickValue);
     }
     let c = valuation::coefficient(quote.tick_value as u32, listing.tick);
     if c < 1 {
-        return Verdict::Refused(Refusal::TickValue);
+        return Err(Refusal::TickValue);
     }
     if MAX_TICK_VALUE < c {
-        return Verdict::Refused(Refusal::TickValue);
+        return Err(Refusal::TickValue);
     }
-    Verdict::Allowed
+    Ok(())
 }

@@ -8,14 +8,13 @@ use crate::change;
 use book::state::{Effect, Today};
 use mark_verdict::mark_verdict;
 use series::event::Quote;
-use series::refusal::Verdict;
 use series::state::Listing;
 
-// What a mark does, or why it is refused.
+// What a mark does, or why it is refused. It is made only once the verdict allows it: then its numbers fit.
 pub fn mark(today: Today, listing: Listing, quote: Quote) -> Effect
     ensures { result ≡ rule.by_verdict (Marked (mark_of listing.tick quote)) (mark_verdict today listing quote) }
 {
-    if let Verdict::Refused(why) = mark_verdict(today, listing, quote) {
+    if let Err(why) = mark_verdict(today, listing, quote) {
         return Effect::Refused(why);
     }
     let m = change::mark(listing.tick, quote);

@@ -29,11 +29,9 @@ fn gross_after(positions: &[i32; PLACES], account: usize, section: usize, change
     ensures { result ≡ gross_after positions.now account section change }
 {
     let mut gross: u64 = 0;
-    let mut s: usize = 0;
-    while s < SECTIONS {
+    for s in 0..SECTIONS {
         let position = positions[place_in(account, s)] as i64 + in_section(s, section, change);
-        gross = gross + magnitude(position);
-        s += 1;
+        gross += magnitude(position);
     }
     gross
 }
@@ -53,10 +51,10 @@ pub fn limit(positions: &[i32; PLACES], deal: Deal) -> Verdict
 {
     let quantity = deal.quantity as i64;
     if passes_limit(positions, deal.buyer, deal.buyer_section, quantity) {
-        return Verdict::Refused(Refusal::PositionLimit);
+        return Err(Refusal::PositionLimit);
     }
     if passes_limit(positions, deal.seller, deal.seller_section, -quantity) {
-        return Verdict::Refused(Refusal::PositionLimit);
+        return Err(Refusal::PositionLimit);
     }
-    Verdict::Allowed
+    Ok(())
 }

@@ -1,4 +1,5 @@
 -- In every list of events each trade that is carried out is recorded, and answered, with its period.
+use Rattle.std.specs.Prelude.{Some}
 use mathlib.Core.Path.{◌≡◌, refl, sym, ap, ◌∙◌}
 use mathlib.Core.Logic.{◌≢◌}
 use mathlib.Core.Bool.{Bool, true, false}
@@ -17,7 +18,6 @@ use Rattle.book.specs.Step.{period_of, entry_of, record_of, step_of, run, after}
 use Rattle.book.specs.declared.state.Book.{Book}
 use Rattle.book.specs.declared.state.Event.{Event}
 use Rattle.book.specs.declared.state.Event.TheVariants.{List, Trade, Exercise, Decline, Mark, Intraday, Evening}
-use Rattle.book.specs.declared.state.Period.TheVariants.{In}
 use Rattle.book.proofs.Keeps.{good_after}
 use Rattle.book.proofs.Live.{false_not_true}
 use Rattle.book.proofs.Periods.{second_period, first_period, second_only, over_after, over_after_lem, no_intraday, no_evening, Joined, trade_joined, Stands, record_stands}
@@ -162,7 +162,7 @@ module _ (es : list.List Event) (i : ℕ) (d : Deal) (C : CarriedOut empty_book 
         second_only = λ p. its_day.to (second_only (over_at es i) (sym its_period ∙ p));
         first = λ none. its_period ∙ first_period (not_over none (over_at es i) refl);
         number = joined.number;
-        told = joined.told ∙ ap In (sym its_period);
+        told = joined.told ∙ ap Some (sym its_period);
         today = λ j le h none. (stands_from j le h none).today;
         stands = λ j le h none. (stands_from j le h none).same;
       }

@@ -1,4 +1,5 @@
 -- A place that no event names stays empty; so after events that name no section but 0 all of section 1 is empty.
+use Rattle.std.specs.Prelude.{Ok, Err}
 use mathlib.Core.Path.{◌≡◌, refl, ◌∙◌}
 use mathlib.Core.Logic.{◌≢◌}
 use mathlib.Core.Bool.{true, false}
@@ -20,8 +21,7 @@ use Rattle.terms.specs.Bounds.{accounts, series_room}
 use Rattle.series.specs.Changes.{unmarked, closing, new_futures, settled}
 use Rattle.series.specs.Good.{GoodSeries}
 use Rattle.series.specs.Series.{new_series, with_mark}
-use Rattle.series.specs.declared.refusal.Verdict.{Verdict}
-use Rattle.series.specs.declared.refusal.Verdict.TheVariants.{Allowed, Refused}
+use Rattle.series.specs.Refusals.{Verdict}
 use Rattle.series.specs.declared.state.Listing.{Listing}
 use Rattle.series.specs.declared.state.Mark as mark_type
 use Rattle.series.specs.declared.state.Series.{Series}
@@ -107,7 +107,7 @@ module _ (k : ℕ) (lk : k < places) where
     there : (i : ℕ) → i < b.listed → EmptyAt (series_at b i) k
     there i lt = e i (omega (arith, lt, g.listed))
 
-    empty_allowed : (f : Event) → Avoids k f → verdict_of b f ≡ Allowed → Empty (carried_out b f).book
+    empty_allowed : (f : Event) → Avoids k f → verdict_of b f ≡ Ok tt → Empty (carried_out b f).book
     empty_allowed (List n) a v =
         each_series (λ j x. EmptyAt x k) b.series b.listed _ (omega (arith, (allowed_list b n v).room, g.series_long)) (new_empty _) (λ j l ne. e j l)
     empty_allowed (Trade d) a v =
@@ -164,8 +164,8 @@ module _ (k : ℕ) (lk : k < places) where
     empty_step f a = by (verdict_of b f) refl
       where
         by : (v : Verdict) → verdict_of b f ≡ v → Empty (decided b f v).book
-        by Allowed q = empty_allowed f a q
-        by (Refused why) q = e
+        by (Ok tt) q = empty_allowed f a q
+        by (Err why) q = e
 
   empty_run : (es : list.List Event) (b : Book) → Good b → Empty b → AllAvoid k es → Empty (run b es)
   unfolding run

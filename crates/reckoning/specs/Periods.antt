@@ -1,6 +1,6 @@
 -- What holds of the trades' periods after every list of events from an empty book, refused ones among them (RULES, "Events" and "The
 -- reckoning").
-use Rattle.std.specs.Prelude.{◌≡◌, ℕ, ◌≤◌, ◌<◌, length, take}
+use Rattle.std.specs.Prelude.{◌≡◌, ℕ, ◌≤◌, ◌<◌, length, take, Some}
 use mathlib.Core.List as list
 use Rattle.margin.specs.Margin.{in_period}
 use Rattle.margin.specs.declared.trade.Trade as trade_type
@@ -10,7 +10,6 @@ use Rattle.book.specs.State.{empty_book, trade_at}
 use Rattle.book.specs.Step.{entry_of, step_of, after}
 use Rattle.book.specs.declared.state.Event.{Event}
 use Rattle.book.specs.declared.state.Event.TheVariants.{Trade, Intraday, Evening}
-use Rattle.book.specs.declared.state.Period.TheVariants.{In}
 use Rattle.reckoning.specs.Demand.{CarriedOut, up_to}
 
 -- "an intraday session of that day came before it": an Intraday is carried out before place i, and no Evening between the two
@@ -48,7 +47,7 @@ pub record PeriodKept (es : list.List Event) (i : ℕ) (d : Deal) : Type 0 where
   pub first : ¬ AfterIntraday es i → period_at es i ≡ 1
   -- the answer, of number 0, tells it
   pub number : answer_number (step_of (after (take i es)) (Trade d)).answer ≡ 0
-  pub told : period_told (step_of (after (take i es)) (Trade d)).answer ≡ In (period_at es i)
+  pub told : period_told (step_of (after (take i es)) (Trade d)).answer ≡ Some (period_at es i)
   -- and the record is one of the day's and stands as it is, up to every later place with no Evening carried out up to there
   pub today : (j : ℕ) → i ≤ j → j < length es → NoEvening es i j → joins_at es i < (after (up_to j es)).trades
   pub stands : (j : ℕ) → i ≤ j → j < length es → NoEvening es i j → record_after es i j ≡ record_at es i

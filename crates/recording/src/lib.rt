@@ -9,7 +9,8 @@ use book::state::{Answer, Effect};
 use margin::trade::Trade;
 use terms::bounds::BLOTTER;
 
-// The place of the blotter's next record, or of its last one where the blotter is full.
+// The place of the blotter's next record, or of its last one where the blotter is full. No Option: every effect stores one record, if
+// only the one that stands there, and the law `step_stored` speaks of its place, `next_record`.
 pub fn next_record(trades: usize) -> usize
     ensures { result ≡ rule.next_record trades }
 {

@@ -19,7 +19,7 @@ pub fn refused(book: Book, why: Refusal) -> Step
     Step {
         answer: Answer::Refused(why),
         money: [0i64; ACCOUNTS],
-        book: book,
+        book,
     }
 }
 

@@ -1,4 +1,5 @@
 -- The line of a trade that is carried out has its record's period in the account's column; every other answer's line has nothing there.
+use Rattle.std.specs.Prelude.{Option, None}
 use mathlib.Core.Path.{◌≡◌, refl, sym, ap, ◌∙◌}
 use mathlib.Core.List.{[]}
 use Prim.Native.Nat.{ℕ}
@@ -13,8 +14,6 @@ use Rattle.book.specs.Step.{step_of}
 use Rattle.book.specs.declared.state.Answer.{Answer}
 use Rattle.book.specs.declared.state.Book.{Book}
 use Rattle.book.specs.declared.state.Event.TheVariants.{Trade}
-use Rattle.book.specs.declared.state.Period.{Period}
-use Rattle.book.specs.declared.state.Period.TheVariants.{Untold}
 use Rattle.book.proofs.Periods.{trade_joined}
 use Rattle.report.specs.Lines.{line, kind_a, series_text, period_text}
 use Rattle.report.specs.Report.{answer_line, answer_of, report_of, is_session}
@@ -29,7 +28,7 @@ trade_line row b g d t =
     ∙ ap (answer_of row) joined.answer
     ∙ ap (λ (entry : trade_type.Trade). line row kind_a [] (decimal entry.period) (decimal 0)) (sym joined.entry)
 
-pub no_period_line : (row : ℕ) (answer : Answer) → period_told answer ≡ Untold
+pub no_period_line : (row : ℕ) (answer : Answer) → period_told answer ≡ None
     → answer_of row answer ≡ line row kind_a (series_text (named answer)) [] (decimal (answer_number answer))
 unfolding answer_line period_text
-no_period_line row answer e = ap (λ (told : Period). answer_line row (named answer) told (answer_number answer)) e
+no_period_line row answer e = ap (λ (told : Option ℕ). answer_line row (named answer) told (answer_number answer)) e

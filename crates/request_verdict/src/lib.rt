@@ -1,4 +1,5 @@
-// Whether a request to exercise or a decline may be made: the conditions, tested in the order of the rule.
+// Whether a request to exercise or a decline may be made: the conditions, tested in the order of the rule. The tests that both begin with
+// stand in both, so that each chain is read beside that of its rule.
 #![tactic(auto)]
 
 ghost use Rattle.std.specs.Prelude.{◌≡◌, ◌<◌};
@@ -35,29 +36,29 @@ pub fn exercise_verdict(
     ensures { result ≡ rule.exercise_verdict today listing positions.now request }
 {
     if FINAL_DAY < today.day {
-        return Verdict::Refused(Refusal::Finished);
+        return Err(Refusal::Finished);
     }
     if today.listed <= request.series as usize {
-        return Verdict::Refused(Refusal::UnknownSeries);
+        return Err(Refusal::UnknownSeries);
     }
     if listing.last_day < today.day {
-        return Verdict::Refused(Refusal::Expired);
+        return Err(Refusal::Expired);
     }
     if ACCOUNTS <= request.account as usize {
-        return Verdict::Refused(Refusal::UnknownAccount);
+        return Err(Refusal::UnknownAccount);
     }
     if SECTIONS as u64 <= request.section {
-        return Verdict::Refused(Refusal::UnknownSection);
+        return Err(Refusal::UnknownSection);
     }
     let category = listing.category;
     if too_early(category, today.day, listing.last_day) {
-        return Verdict::Refused(Refusal::NotToday);
+        return Err(Refusal::NotToday);
     }
     let place = place_in(request.account as usize, request.section as usize);
     if (held(positions[place]) as u64) < request.quantity {
-        return Verdict::Refused(Refusal::NotHeld);
+        return Err(Refusal::NotHeld);
     }
-    Verdict::Allowed
+    Ok(())
 }
 
 // May this section of an account decline exercise?
@@ -65,22 +66,22 @@ pub fn decline_verdict(today: Today, listing: Listing, waiver: Waiver) -> Verdic
     ensures { result ≡ rule.decline_verdict today listing waiver }
 {
     if FINAL_DAY < today.day {
-        return Verdict::Refused(Refusal::Finished);
+        return Err(Refusal::Finished);
     }
     if today.listed <= waiver.series as usize {
-        return Verdict::Refused(Refusal::UnknownSeries);
+        return Err(Refusal::UnknownSeries);
     }
     if listing.last_day < today.day {
-        return Verdict::Refused(Refusal::Expired);
+        return Err(Refusal::Expired);
     }
     if ACCOUNTS <= waiver.account as usize {
-        return Verdict::Refused(Refusal::UnknownAccount);
+        return Err(Refusal::UnknownAccount);
     }
     if SECTIONS as u64 <= waiver.section {
-        return Verdict::Refused(Refusal::UnknownSection);
+        return Err(Refusal::UnknownSection);
     }
     if today.day < listing.last_day {
-        return Verdict::Refused(Refusal::NotToday);
+        return Err(Refusal::NotToday);
     }
-    Verdict::Allowed
+    Ok(())
 }

@@ -7,7 +7,6 @@ use book::state::{Effect, Today};
 use places::PLACES;
 use request_verdict::{decline_verdict, exercise_verdict};
 use series::event::{Request, Waiver};
-use series::refusal::Verdict;
 use series::state::Listing;
 
 // What a request does, or why it is refused.
@@ -19,7 +18,7 @@ pub fn exercise(
 ) -> Effect
     ensures { result ≡ rule.by_verdict (Requested request) (exercise_verdict today listing positions.now request) }
 {
-    if let Verdict::Refused(why) = exercise_verdict(today, listing, positions, request) {
+    if let Err(why) = exercise_verdict(today, listing, positions, request) {
         return Effect::Refused(why);
     }
     Effect::Requested(request)
@@ -29,7 +28,7 @@ pub fn exercise(
 pub fn decline(today: Today, listing: Listing, waiver: Waiver) -> Effect
     ensures { result ≡ rule.by_verdict (Declined waiver) (decline_verdict today listing waiver) }
 {
-    if let Verdict::Refused(why) = decline_verdict(today, listing, waiver) {
+    if let Err(why) = decline_verdict(today, listing, waiver) {
         return Effect::Refused(why);
     }
     Effect::Declined(waiver)

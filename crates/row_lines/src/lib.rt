@@ -29,10 +29,8 @@ pub fn money(out: &mut [u8], at: usize, row: u64, money: [i64; ACCOUNTS]) -> usi
     ensures upper_bound { result ≤ at + rule.accounts_room }
 {
     let mut next = at;
-    let mut a: usize = 0;
-    while a < ACCOUNTS {
+    for a in 0..ACCOUNTS {
         next = lines::money(out, next, row, a as u8, money[a]);
-        a += 1;
     }
     next
 }

@@ -7,7 +7,7 @@ ghost use Rattle.book.specs.Good.{Good};
 ghost use Rattle.book.specs.Step as rule;
 ghost use Rattle.book.specs.declared.state.Event as happening;
 
-use book::state::{Book, Found, Step};
+use book::state::{Book, Step};
 use missing_mark::first_unmarked;
 use refusing::refused;
 use series::refusal::Refusal;
@@ -24,7 +24,7 @@ pub fn intraday(book: Book) -> Step
     if book.intraday_done {
         return refused(book, Refusal::SecondIntraday);
     }
-    if let Found::At(i) = first_unmarked(book) {
+    if let Some(i) = first_unmarked(book) {
         return refused(book, Refusal::NoMark(i));
     }
     intraday_session::carried_out(book)
@@ -38,7 +38,7 @@ pub fn evening(book: Book) -> Step
     if FINAL_DAY < book.day {
         return refused(book, Refusal::Finished);
     }
-    if let Found::At(series) = first_unmarked(book) {
+    if let Some(series) = first_unmarked(book) {
         return refused(book, Refusal::NoMark(series));
     }
     evening_session::carried_out(book)

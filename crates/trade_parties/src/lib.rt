@@ -14,19 +14,19 @@ pub fn parties(deal: Deal) -> Verdict
     ensures { result ≡ rule.parties_verdict deal }
 {
     if ACCOUNTS <= deal.buyer as usize {
-        return Verdict::Refused(Refusal::UnknownAccount);
+        return Err(Refusal::UnknownAccount);
     }
     if ACCOUNTS <= deal.seller as usize {
-        return Verdict::Refused(Refusal::UnknownAccount);
+        return Err(Refusal::UnknownAccount);
     }
     if SECTIONS as u64 <= deal.buyer_section {
-        return Verdict::Refused(Refusal::UnknownSection);
+        return Err(Refusal::UnknownSection);
     }
     if SECTIONS as u64 <= deal.seller_section {
-        return Verdict::Refused(Refusal::UnknownSection);
+        return Err(Refusal::UnknownSection);
     }
     if deal.buyer == deal.seller {
-        return Verdict::Refused(Refusal::OwnTrade);
+        return Err(Refusal::OwnTrade);
     }
-    Verdict::Allowed
+    Ok(())
 }

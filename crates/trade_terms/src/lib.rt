@@ -14,16 +14,16 @@ pub fn price(tick: u32, deal: Deal) -> Verdict
     ensures { result ≡ rule.price_verdict tick deal }
 {
     if deal.quantity < 1 {
-        return Verdict::Refused(Refusal::Size);
+        return Err(Refusal::Size);
     }
     if MAX_QUANTITY < deal.quantity {
-        return Verdict::Refused(Refusal::Size);
+        return Err(Refusal::Size);
     }
     if MAX_OPTION_PRICE < deal.price {
-        return Verdict::Refused(Refusal::Price);
+        return Err(Refusal::Price);
     }
     if 0 < deal.price % tick as u64 {
-        return Verdict::Refused(Refusal::Price);
+        return Err(Refusal::Price);
     }
-    Verdict::Allowed
+    Ok(())
 }

@@ -25,25 +25,19 @@ pub fn trade_verdict(
     ensures { result ≡ rule.trade_verdict today listing positions.now deal }
 {
     if FINAL_DAY < today.day {
-        return Verdict::Refused(Refusal::Finished);
+        return Err(Refusal::Finished);
     }
     if today.listed <= deal.series as usize {
-        return Verdict::Refused(Refusal::UnknownSeries);
+        return Err(Refusal::UnknownSeries);
     }
     if listing.last_day < today.day {
-        return Verdict::Refused(Refusal::Expired);
+        return Err(Refusal::Expired);
     }
-    if let Verdict::Refused(why) = parties(deal) {
-        return Verdict::Refused(why);
-    }
-    if let Verdict::Refused(why) = price(listing.tick, deal) {
-        return Verdict::Refused(why);
-    }
-    if let Verdict::Refused(why) = limit(positions, deal) {
-        return Verdict::Refused(why);
-    }
+    parties(deal)?;
+    price(listing.tick, deal)?;
+    limit(positions, deal)?;
     if BLOTTER <= today.trades {
-        return Verdict::Refused(Refusal::BlotterFull);
+        return Err(Refusal::BlotterFull);
     }
-    Verdict::Allowed
+    Ok(())
 }

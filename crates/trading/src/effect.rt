@@ -8,7 +8,6 @@ use book::state::{Effect, Today};
 use margin::trade::Trade;
 use places::PLACES;
 use series::event::Deal;
-use series::refusal::Verdict;
 use series::state::Listing;
 use trade_verdict::trade_verdict;
 
@@ -19,12 +18,12 @@ fn period_of(intraday_done: bool) -> u8
     if intraday_done { 2 } else { 1 }
 }
 
-// What a trade does, or why it is refused.
+// What a trade does, or why it is refused. It is made only once the verdict allows it: then its numbers fit.
 pub fn trade(today: Today, listing: Listing, positions: &[i32; PLACES], deal: Deal) -> Effect
     requires { deal.series < today.listed → 0 < listing.tick }
     ensures { result ≡ rule.by_verdict (Traded (record_of today.intraday_done deal)) (trade_verdict today listing positions.now deal) }
 {
-    if let Verdict::Refused(why) = trade_verdict(today, listing, positions, deal) {
+    if let Err(why) = trade_verdict(today, listing, positions, deal) {
         return Effect::Refused(why);
     }
     let t = Trade {

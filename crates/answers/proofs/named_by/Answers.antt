@@ -1,13 +1,13 @@
 -- `answers::named_by` meets its contract.
+use Rattle.std.specs.Prelude.{None}
 use mathlib.Core.Path.{◌≡◌, refl}
 use Prim.Native.Nat.{ℕ}
 use Rattle.series.specs.declared.refusal.Refusal.{Refusal}
 use Rattle.series.specs.declared.refusal.Refusal.TheVariants.{Finished, UnknownSeries, Expired, UnknownAccount, UnknownSection, OwnTrade, Size, Price, PositionLimit, BlotterFull, Terms, SeriesFull, NotToday, NotHeld, TickValue, SecondIntraday, NoMark}
-use Rattle.book.specs.declared.state.Found.TheVariants.{Nothing}
 use Rattle.book.specs.Answers.{named_by}
 use Rattle.answers.proofs.named_by.Goals as goal
 
-unnamed : (why : Refusal) → ((i : ℕ) → why ≡ NoMark i → ⊥) → Nothing ≡ named_by why
+unnamed : (why : Refusal) → ((i : ℕ) → why ≡ NoMark i → ⊥) → None ≡ named_by why
 unfolding named_by
 unnamed Finished h = refl
 unnamed UnknownSeries h = refl

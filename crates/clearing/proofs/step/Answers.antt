@@ -1,17 +1,18 @@
 -- `clearing::step` meets its contract: it is the event's step, and every step keeps the book good.
-use mathlib.Core.Path.{◌≡◌}
+use mathlib.Core.Path.{◌≡◌, ap, ◌∙◌}
 use Prim.Native.Nat.{◌<◌}
 use native.Mathlib.Omega.{arith}
 use Rattle.terms.specs.Bounds.{blotter_room, max_position}
 use Rattle.integer.specs.Bounds.{Bounded}
-use Rattle.book.specs.Effects.{Fits}
+use Rattle.book.specs.Effects.{Fits, effect_of}
 use Rattle.book.specs.Good.{Good}
 use Rattle.book.specs.State.{series_at, today_of}
 use Rattle.book.specs.Step.{step_of}
 use Rattle.book.specs.declared.state.Book.{Book}
 use Rattle.book.specs.declared.state.Event.{Event}
 use Rattle.book.specs.declared.state.Step.{Step}
-use Rattle.book.proofs.Effects.{next_record_within, effect_fits, step_stored}
+use Rattle.book.specs.declared.state.Today.{Today}
+use Rattle.book.proofs.Effects.{next_record_within, effect_fits, effect_at, step_stored}
 use Rattle.book.proofs.Keeps.{stays_good}
 use Rattle.clearing.proofs.step.Goals.{After-effect-effect, After-next_record-n}
 use Rattle.clearing.proofs.step.Goals as goal
@@ -23,8 +24,13 @@ stepped b e g is = (is, stays_good b e _ g is)
 bounded : (c : After-effect-effect) → Bounded max_position (series_at c.args.book c.series_of-i.result).positions
 bounded c = (c.requires.series c.series_of-i.result c.if-i-ge-SERIES.false).positions.bounded
 
+acts : (c : After-effect-effect) → c.effect-effect.result ≡ effect_at c.args.book c.series_of-i.result c.args.event
+acts c =
+    let s = series_at c.args.book c.series_of-i.result in
+    c.effect-effect.ensures ∙ ap (λ (t : Today). effect_of t s.listing s.positions c.args.event) c.today_of-today.ensures
+
 fits : (c : After-effect-effect) → Fits c.effect-effect.result
-fits c = rw c.effect-effect.ensures (effect_fits (today_of c.args.book) (series_at c.args.book c.series_of-i.result).listing _ (bounded c) c.args.event)
+fits c = rw (acts c) (effect_fits (today_of c.args.book) (series_at c.args.book c.series_of-i.result).listing _ (bounded c) c.args.event)
 
 trade_type : (c : After-next_record-n) → c.next_record-n.result < blotter_room
 trade_type c = rw c.next_record-n.ensures (next_record_within _)
@@ -33,7 +39,7 @@ pub returns-then-i-ge-SERIES : goal.returns-then-i-ge-SERIES
 returns-then-i-ge-SERIES c = stepped c.args.book c.args.event c.requires c.whole.ensures
 
 pub effect-effect-requires : goal.effect-effect-requires
-effect-effect-requires c = let n = c.series_of-i in rw (← n.ensures) (c.requires.tick n.result)
+effect-effect-requires c = let n = c.series_of-i in rw (← n.ensures, c.today_of-today.ensures) (c.requires.tick n.result)
 
 pub move_positions-requires : goal.move_positions-requires
 move_positions-requires c =
@@ -61,7 +67,7 @@ bounds-book-n-2 c = trade_type (goal.at.bounds-book-n-2 c).After-next_record-n
 pub returns : goal.returns
 returns c =
     stepped c.args.book c.args.event c.requires
-    (step_stored c.args.book c.args.event _ _ c.series_of-i.ensures c.if-i-ge-SERIES.false c.next_record-n.ensures _ c.effect-effect.ensures
+    (step_stored c.args.book c.args.event _ _ c.series_of-i.ensures c.if-i-ge-SERIES.false c.next_record-n.ensures _ (acts (goal.at.returns c).After-effect-effect)
     (record {
       answer = c.answer.ensures;
       moved = c.move_positions.ensures;

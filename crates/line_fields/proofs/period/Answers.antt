@@ -3,12 +3,12 @@ use native.Mathlib.Omega.{arith}
 use Rattle.report.specs.Lines.{period_text}
 use Rattle.line_fields.proofs.period.Goals as goal
 
-pub returns-in-In : goal.returns-in-In
+pub returns-in-Some : goal.returns-in-Some
 unfolding period_text
-returns-in-In c =
-    record { put = rw c.in-In.is c.account.ensures.put; upper_bound = c.account.ensures.upper_bound }
+returns-in-Some c =
+    record { put = rw c.in-Some.is c.account.ensures.put; upper_bound = c.account.ensures.upper_bound }
 
-pub returns-in-Untold : goal.returns-in-Untold
+pub returns-in-None : goal.returns-in-None
 unfolding period_text
-returns-in-Untold c =
-    record { put = rw c.in-Untold.is c.bytes.ensures; upper_bound = omega arith }
+returns-in-None c =
+    record { put = rw c.in-None.is c.bytes.ensures; upper_bound = omega arith }

@@ -65,25 +65,19 @@ module _ (c : After-magnitude-gross) where
   small = omega (arith, c.magnitude-gross.ensures.0, ap nat_abs (local w64 (moved c.before) tt).is, (moved c.before).bound.abs)
 
 pub loop-s-init : goal.loop-s-init
-loop-s-init c = (omega arith, sym (sumℕ_zero _), omega arith)
-
-pub bounds-positions-place_in : goal.bounds-positions-place_in
-bounds-positions-place_in c = c.place_in.ensures.upper_bound
-
-pub overflow_cast-position : goal.overflow_cast-position
-overflow_cast-position c = fits w64 (stands c) tt
+loop-s-init c = (sym (sumℕ_zero _), omega arith)
 
 pub overflow_add-position : goal.overflow_add-position
 overflow_add-position c = fits w64 (moved c) tt
 
 pub overflow_add-gross : goal.overflow_add-gross
-overflow_add-gross c = omega (arith, (at_turn c).loop-s.invariant.2, (at_turn c).loop-s.invariant.0, small c)
+overflow_add-gross c = omega (arith, (at_turn c).loop-s.invariant.1, (at_turn c).loop-s.auto.s-end, small c)
 
 pub loop-s-preserved : goal.loop-s-preserved
-loop-s-preserved c = (omega arith, omega (arith, (at_turn c).loop-s.invariant.1, sumℕ_next (at_turn c).loop-s.s (λ t. nat_abs (args c t)), gives c), omega (arith, (at_turn c).loop-s.invariant.2, small c))
+loop-s-preserved c = (omega (arith, (at_turn c).loop-s.invariant.0, sumℕ_next (at_turn c).loop-s.s (λ t. nat_abs (args c t)), gives c), omega (arith, (at_turn c).loop-s.invariant.1, small c))
 
 pub returns : goal.returns
 returns c =
     let b = c.before.before in
-    let e : c.loop-s.s ≡ sections = omega (arith, c.loop-s.invariant.0) in
-    (rw (e, (any w64 b.ranges.change).is) at c.loop-s.invariant.1) ∙ sym (gross_after_sum b.args.positions.now b.args.account b.args.section b.args.change b.requires.1)
+    let e : c.loop-s.s ≡ sections = omega (arith, c.loop-s.auto.s-end, c.loop-s-test.false) in
+    (rw (e, (any w64 b.ranges.change).is) at c.loop-s.invariant.0) ∙ sym (gross_after_sum b.args.positions.now b.args.account b.args.section b.args.change b.requires.1)

@@ -1,12 +1,12 @@
 use mathlib.Core.Path.{◌≡◌}
 use mathlib.Core.List.{List}
-use Prim.Native.Nat.{ℕ, ◌*◌, ◌-◌, ◌≤◌}
+use Prim.Native.Nat.{ℕ, ◌*◌, ◌≤◌}
 use lib.Dec.{eqb}
 use lib.IntN.{ℤ, pos, nat_abs, ◌+ℤ◌}
 use Rattle.choice.specs.Choice.{choose}
 use Rattle.integer.specs.Sum.{sumℕ}
 use Rattle.integer.specs.Table.{at}
-use Rattle.places.specs.Places.{sections, place_in}
+use Rattle.places.specs.Places.{place_in}
 use Rattle.position_limit.proofs.gross_after.Given as goal
 
 -- a position of 32 bits, once a trade has changed it
@@ -19,7 +19,4 @@ has positions account section change s = at positions (place_in account s) +ℤ 
 
 abbrev pub invariant-loop-s : goal.invariant-loop-s
 invariant-loop-s l =
-    (l.s ≤ sections) × (l.gross ≡ sumℕ l.s (λ t. nat_abs (has l.positions l.account l.section (l.change) t))) × (l.gross ≤ l.s * most)
-
-abbrev pub decreases-loop-s : goal.decreases-loop-s
-decreases-loop-s l = sections - l.s
+    (l.gross ≡ sumℕ l.s (λ t. nat_abs (has l.positions l.account l.section (l.change) t))) × (l.gross ≤ l.s * most)

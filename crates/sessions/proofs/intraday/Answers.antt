@@ -10,8 +10,8 @@ returns-then-book-gt-FINAL_DAY c = by_refusal _ Intraday c.refused.ensures (sear
 pub returns-then-book : goal.returns-then-book
 returns-then-book c = by_refusal _ Intraday c.refused-then-book.ensures (search (hit, past, tests))
 
-pub returns-in-At : goal.returns-in-At
-returns-in-At c = by_refusal _ Intraday c.refused-in-At.ensures (search (hit, past, tests, mark_missing))
+pub returns-in-Some : goal.returns-in-Some
+returns-in-Some c = by_refusal _ Intraday c.refused-in-Some.ensures (search (hit, past, tests, mark_missing))
 
 pub returns : goal.returns
 returns c = by_allowance _ Intraday c.carried_out.ensures (past _ (search tests) (past _ (search tests) (none_missing c.first_unmarked.ensures c.in_default.is)))

@@ -1,4 +1,5 @@
 -- `clearing::whole::whole` meets its contract: each arm is its event.
+use Rattle.std.specs.Prelude.{Err}
 use mathlib.Core.Path.{◌≡◌, refl, sym, ap, ◌∙◌}
 use Prim.Native.Nat.{◌≤◌}
 use native.Mathlib.Omega.{arith}
@@ -6,8 +7,7 @@ use Rattle.choice.specs.Choice.{choose}
 use Rattle.terms.specs.Bounds.{series_room}
 use Rattle.series.specs.declared.event.NewSeries.{NewSeries}
 use Rattle.series.specs.declared.refusal.Refusal.TheVariants.{Finished, UnknownSeries}
-use Rattle.series.specs.declared.refusal.Verdict.{Verdict}
-use Rattle.series.specs.declared.refusal.Verdict.TheVariants.{Refused}
+use Rattle.series.specs.Refusals.{Verdict}
 use Rattle.book.specs.Effects.{series_of}
 use Rattle.book.specs.Good.{Good}
 use Rattle.book.specs.State.{today_of}
@@ -28,7 +28,7 @@ matched b e r p q = p ∙ ap (step_of b) (sym q)
 -- an event on a series whose number is past every series: what such an event gives, and that it is one since it is of no other kind
 module _ (b : Book) (good : Good b) {r : Step} (p : r ≡ refused b (choose (finished (today_of b)) Finished UnknownSeries)) where
   past_all : (e : Event) (v : Verdict) → series_room ≤ series_of e
-      → verdict_of b e ≡ choose (finished (today_of b)) (Refused Finished) (choose (unlisted (today_of b) (series_of e)) (Refused UnknownSeries) v)
+      → verdict_of b e ≡ choose (finished (today_of b)) (Err Finished) (choose (unlisted (today_of b) (series_of e)) (Err UnknownSeries) v)
       → r ≡ step_of b e
   past_all e v le is = by_refusal b e p (no_such_series b (series_of e) v (omega (arith, good.listed, le)) ∙ sym is)
 

@@ -1,22 +1,28 @@
 -- `listing::event::list` meets its contract: the step by the verdict.
-use mathlib.Core.Path.{sym, ◌∙◌}
+use mathlib.Core.Path.{◌≡◌, sym, ap, ◌∙◌}
 use Prim.Native.Nat.{◌+◌}
 use native.Mathlib.Omega.{arith}
 use Rattle.book.specs.State.{no_money, today_of, with_listed, with_series}
+use Rattle.book.specs.Verdicts.{list_verdict}
+use Rattle.book.specs.declared.state.Today.{Today}
 use Rattle.book.specs.declared.state.Answer.TheVariants.{Listed}
 use Rattle.book.specs.declared.state.Event.TheVariants.{List}
 use Rattle.book.proofs.Allowed.{ListAllowed, list_allowed}
 use Rattle.book.proofs.Decided.{by_refusal, by_allowance, verdict_is}
-use Rattle.listing.proofs.event.list.Goals.{In_default}
+use Rattle.listing.proofs.event.list.Goals.{After-list_verdict, In_default}
 use Rattle.listing.proofs.event.list.Goals as goal
+
+-- the verdict is of the book's day
+judged : (c : After-list_verdict) → c.list_verdict.result ≡ list_verdict (today_of c.args.book) c.args.new
+judged c = c.list_verdict.ensures ∙ ap (λ (t : Today). list_verdict t c.args.new) c.today_of-today.ensures
 
 -- the terms are allowed
 allowed : (c : In_default) → ListAllowed (today_of c.args.book) c.args.new
 allowed c =
-    list_allowed (today_of c.args.book) c.args.new (sym c.list_verdict.ensures ∙ c.in_default.is)
+    list_allowed (today_of c.args.book) c.args.new (sym (judged c.before) ∙ c.in_default.is)
 
-pub returns-in-Refused : goal.returns-in-Refused
-returns-in-Refused c = by_refusal _ (List c.args.new) c.refused.ensures (verdict_is c.list_verdict.ensures c.in-Refused.is)
+pub returns-in-Err : goal.returns-in-Err
+returns-in-Err c = by_refusal _ (List c.args.new) c.refused.ensures (verdict_is (judged (goal.at.returns-in-Err c).After-list_verdict) c.in-Err.is)
 
 pub overflow_cast-listing : goal.overflow_cast-listing
 overflow_cast-listing c = omega (arith, (allowed c.before).strike_most)
@@ -48,4 +54,4 @@ returns c =
       money = no_money;
       book = with_listed (with_series k k.listed (c.new_series-s.ensures i)) (k.listed + 1);
     })
-    (verdict_is c.list_verdict.ensures c.in_default.is)
+    (verdict_is (judged (goal.at.returns c).After-list_verdict) c.in_default.is)

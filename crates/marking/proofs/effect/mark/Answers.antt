@@ -14,8 +14,8 @@ start c = c.before.before
 allowed : (c : In_default) → MarkAllowed (start c).args.today (start c).args.listing (start c).args.quote
 allowed c = mark_allowed (start c).args.today (start c).args.listing (start c).args.quote (sym c.mark_verdict.ensures ∙ c.in_default.is)
 
-pub returns-in-Refused : goal.returns-in-Refused
-returns-in-Refused c = effect_refused _ refl (verdict_is c.mark_verdict.ensures c.in-Refused.is)
+pub returns-in-Err : goal.returns-in-Err
+returns-in-Err c = effect_refused _ refl (verdict_is c.mark_verdict.ensures c.in-Err.is)
 
 pub mark-m-requires : goal.mark-m-requires
 mark-m-requires c =

@@ -18,8 +18,8 @@ start c = c.before.before
 allowed : (c : In_default) → TradeAllowed (start c).args.today (start c).args.listing (start c).args.positions.now (start c).args.deal
 allowed c = trade_allowed (start c).args.today (start c).args.listing (start c).args.positions.now (start c).args.deal (sym c.trade_verdict.ensures ∙ c.in_default.is)
 
-pub returns-in-Refused : goal.returns-in-Refused
-returns-in-Refused c = effect_refused _ refl (verdict_is c.trade_verdict.ensures c.in-Refused.is)
+pub returns-in-Err : goal.returns-in-Err
+returns-in-Err c = effect_refused _ refl (verdict_is c.trade_verdict.ensures c.in-Err.is)
 
 pub overflow_cast-t : goal.overflow_cast-t
 overflow_cast-t c = omega (arith, (allowed c.before).buyer_section)
