@@ -9,7 +9,6 @@ ghost use Rattle.rows.specs.Row.{row_of};
 ghost use Rattle.stream.specs.Output.{Ready};
 ghost use Rattle.stream.specs.Parts.{RowPut, RowPassed};
 
-use book::state::{Found, Period};
 use event_row::event_row;
 use rows::types::Row;
 use std::io::Write;
@@ -27,8 +26,8 @@ fn answer_row(calendar: &[u64], bytes: &[u8], out: &mut [u8], replay: &mut Repla
                 out,
                 replay.waiting.at,
                 replay.row,
-                Found::Nothing,
-                Period::Untold,
+                None,
+                None,
                 answers::number::of_row(why),
             );
         }

@@ -5,13 +5,14 @@ ghost use Rattle.calendar.specs.Days.{dates_of};
 ghost use Rattle.stream.specs.Output.{Ready};
 ghost use Rattle.stream.specs.Parts.{AllPassed};
 
-use book::state::{Effect, Today};
+use book::state::Effect;
 use buffers::put_answer;
 use positions_apart::{put_back, taken_out};
 use row_step::pass_row;
 use rows::types::End;
 use std::io::Write;
 use stream::types::{Replay, SeriesRow};
+use today::today_of;
 
 // The rows of a buffer that end in it; returns where the unfinished one starts. The book stays where it is for all of them: an event on one
 // series changes that series of it, and the blotter. The positions stand apart meanwhile, so that a trade, which changes nothing else of a
@@ -46,12 +47,7 @@ pub fn whole_rows<W: Write>(
             from = end + 2;
             continue;
         };
-        let today = Today {
-            day: replay.book.day,
-            listed: replay.book.listed,
-            trades: replay.book.trades,
-            intraday_done: replay.book.intraday_done,
-        };
+        let today = today_of(&replay.book);
         let effect = effect::effect(
             today,
             replay.book.series[series].listing,

@@ -16,6 +16,7 @@ use Rattle.book.specs.Step.{step_of}
 use Rattle.book.specs.declared.state.Book.{Book}
 use Rattle.book.specs.declared.state.Effect.{Effect}
 use Rattle.book.specs.declared.state.Held.{Held}
+use Rattle.book.specs.declared.state.Today.{Today}
 use Rattle.book.proofs.Apart.{rejoined_taken, series_rejoined, stored_apart, traded_apart}
 use Rattle.book.proofs.Effects.{next_record_within, effect_fits, effect_at, answer_by_effect}
 use Rattle.book.proofs.Keeps.{good_step}
@@ -64,6 +65,7 @@ module _ (g : Over) (c : After-put_answer g) where
   effect_is : c.effect-effect.result ≡ effect_at now c.in-Some.field-0.series c.in-Some.field-0.event
   effect_is =
       c.effect-effect.ensures
+      ∙ ap (λ (t : Today). effect_of t (series_at c.loop-series.replay.book c.in-Some.field-0.series).listing (held_at c.loop-series.held c.in-Some.field-0.series).positions c.in-Some.field-0.event) c.today_of-today.ensures
       ∙ ap (λ (s : Series). effect_of (today_of now) s.listing s.positions c.in-Some.field-0.event) (sym its_series)
 
   answered : c.answer.result ≡ (step_of now c.in-Some.field-0.event).answer
@@ -159,7 +161,7 @@ effect-effect-requires g c =
     let r = found _ _ _ c.series_row.ensures _ _ _ c.in-Some.is in
     let tick = subst (λ (s : Series). c.in-Some.field-0.series < c.loop-series.replay.book.listed → 0 < s.listing.tick)
     (series_rejoined c.loop-series.replay.book c.loop-series.held c.in-Some.field-0.series r.room) (c.loop-series.invariant.3.ready.good.tick c.in-Some.field-0.series) in
-    rw (← r.series) tick
+    rw (c.today_of-today.ensures, ← r.series) tick
 
 pub move_positions-requires : goal.move_positions-requires
 move_positions-requires g c =
