@@ -23,10 +23,8 @@ pub fn of_account(numbers: &[i32; PLACES], account: usize) -> i64
     ensures { result ≡ of_account (at numbers.now) account }
 {
     let mut sum: i64 = 0;
-    let mut section: usize = 0;
-    while section < SECTIONS {
-        sum = sum + numbers[place_in(account, section)] as i64;
-        section += 1;
+    for section in 0..SECTIONS {
+        sum += numbers[place_in(account, section)] as i64;
     }
     sum
 }

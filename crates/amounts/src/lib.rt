@@ -12,6 +12,7 @@ ghost use Rattle.margin.specs.BySeries.{cell, cells, in_series, in_all};
 ghost use Rattle.margin.specs.Margin.{CostsIn, Revaluable};
 
 use places::PLACES;
+use std::array::from_fn;
 use terms::bounds::{ACCOUNTS, SERIES};
 
 // The variation margin of a series, n × V(p) − B × V(b) less what its trades cost, in the place of what they cost. `price_value` is V(p)
@@ -28,13 +29,11 @@ pub fn revalue(
     ensures { amounts.new ≡ in_series series (λ a cost. of_account (at positions) a *ℤ pos price_value -ℤ of_account (at opening) a *ℤ pos evening_value -ℤ cost) amounts.old }
 {
     let first = series * ACCOUNTS;
-    let mut a: usize = 0;
-    while a < ACCOUNTS {
+    for a in 0..ACCOUNTS {
         let n = account_places::of_account(&positions, a);
         let b = account_places::of_account(&opening, a);
         let gain = n * price_value as i64 - b * evening_value as i64;
         amounts[first + a] = gain - amounts[first + a];
-        a += 1;
     }
 }
 
@@ -46,13 +45,7 @@ pub fn less(
     requires { (Bounded most_in_a_series amounts) × (Bounded most_in_a_series paid) }
     ensures { result ≡ table cells (λ k. at amounts k -ℤ at paid k) }
 {
-    let mut out = [0i64; SERIES * ACCOUNTS];
-    let mut k: usize = 0;
-    while k < SERIES * ACCOUNTS {
-        out[k] = amounts[k] - paid[k];
-        k += 1;
-    }
-    out
+    from_fn(|k| amounts[k] - paid[k])
 }
 
 // An account's amounts of all series, added up.
@@ -61,10 +54,8 @@ fn of_account(amounts: &[i64; SERIES * ACCOUNTS], account: usize) -> i64
     ensures { result ≡ sum_to series_room (λ i. at amounts.now (cell i account)) }
 {
     let mut sum: i64 = 0;
-    let mut i: usize = 0;
-    while i < SERIES {
-        sum = sum + amounts[i * ACCOUNTS + account];
-        i += 1;
+    for i in 0..SERIES {
+        sum += amounts[i * ACCOUNTS + account];
     }
     sum
 }
@@ -74,13 +65,7 @@ pub fn in_all(amounts: &[i64; SERIES * ACCOUNTS]) -> [i64; ACCOUNTS]
     requires { Bounded (2 * most_in_a_series) amounts.now }
     ensures { result ≡ in_all amounts.now }
 {
-    let mut out = [0i64; ACCOUNTS];
-    let mut a: usize = 0;
-    while a < ACCOUNTS {
-        out[a] = of_account(amounts, a);
-        a += 1;
-    }
-    out
+    from_fn(|a| of_account(amounts, a))
 }
 
 // The cash of each account once its money is paid.
@@ -88,11 +73,5 @@ pub fn pay(cash: [i64; ACCOUNTS], money: [i64; ACCOUNTS]) -> [i64; ACCOUNTS]
     requires { (Bounded max_cash cash) × (Bounded (2 * most_in_a_day) money) }
     ensures { result ≡ table accounts (λ a. at cash a +ℤ at money a) }
 {
-    let mut out = [0i64; ACCOUNTS];
-    let mut a: usize = 0;
-    while a < ACCOUNTS {
-        out[a] = cash[a] + money[a];
-        a += 1;
-    }
-    out
+    from_fn(|a| cash[a] + money[a])
 }

@@ -30,17 +30,15 @@ pub fn traded(
     ensures { result ≡ by_series (λ i a. trades_cost blotter trades i (get_or coefficients i 0) a) }
 {
     let mut out = [0i64; SERIES * ACCOUNTS];
-    let mut k: usize = 0;
-    while k < trades {
+    for k in 0..trades {
         let trade = blotter[k];
         let series = trade.series as usize;
         let first = series * ACCOUNTS;
         let buyer = first + trade.buyer as usize;
         let seller = first + trade.seller as usize;
         let due = amount(trade, coefficients[series]);
-        out[buyer] = out[buyer] + due;
-        out[seller] = out[seller] - due;
-        k += 1;
+        out[buyer] += due;
+        out[seller] -= due;
     }
     out
 }

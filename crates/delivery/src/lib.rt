@@ -11,6 +11,7 @@ ghost use Rattle.exercise.specs.Evening as rule;
 
 use exercise::types::{Fixing, Outcome};
 use places::PLACES;
+use std::array::from_fn;
 use terms::OptionType;
 
 // The position that remains once contracts of it were exercised or assigned.
@@ -42,17 +43,9 @@ fn by_place(
     requires { (Bounded max_position positions) × ((k : ℕ) → amount exercised k ≤ max_position) × ((k : ℕ) → amount assigned k ≤ max_position) }
     ensures { result ≡ record { positions = table places (λ k. rule.shrunk (at positions k) (amount exercised k) (amount assigned k)); futures = table places (λ k. rule.futures option (amount exercised k) (amount assigned k)) } }
 {
-    let mut remaining = [0i32; PLACES];
-    let mut arisen = [0i32; PLACES];
-    let mut place: usize = 0;
-    while place < PLACES {
-        remaining[place] = shrunk(positions[place], exercised[place], assigned[place]);
-        arisen[place] = futures(option, exercised[place], assigned[place]);
-        place += 1;
-    }
     Outcome {
-        positions: remaining,
-        futures: arisen,
+        positions: from_fn(|place| shrunk(positions[place], exercised[place], assigned[place])),
+        futures: from_fn(|place| futures(option, exercised[place], assigned[place])),
     }
 }
 
@@ -70,11 +63,10 @@ pub fn evening(
     let in_all = writers::sum::total(exercised);
     if in_all == 0 {
         return Outcome {
-            positions: positions,
+            positions,
             futures: [0i32; PLACES],
         };
     }
     let assigned = writers::assign(in_all, positions);
-    let option = fixing.option;
-    by_place(option, positions, exercised, assigned)
+    by_place(fixing.option, positions, exercised, assigned)
 }

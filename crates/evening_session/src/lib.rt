@@ -21,31 +21,24 @@ pub fn carried_out(mut book: Book) -> Step
     ensures { result ≡ rule.carried_out book happening.Event.Evening }
 {
     let day = book.day;
-    let listed = book.listed;
-    let blotter = book.blotter;
-    let mut margin = traded(blotter, book.trades, coefficients(book));
-    let mut i: usize = 0;
-    while i < listed {
+    let mut margin = traded(book.blotter, book.trades, coefficients(book));
+    // The intraday session has this loop with another step: one loop with the step as a parameter would say more of the step than it saves.
+    for i in 0..book.listed {
         let s = book.series[i];
         let next = after_evening(s, day);
         revalue_series(&mut margin, i, s, next, day);
         book.series[i] = next;
-        i += 1;
     }
-    let none = [0i64; SERIES * ACCOUNTS];
-    let intraday = book.intraday_paid;
-    let rest = less(margin, intraday);
+    let rest = less(margin, book.intraday_paid);
     let money = in_all(&rest);
-    let cash = book.cash;
-    let paid = pay(cash, money);
-    book.cash = paid;
-    book.intraday_paid = none;
+    book.cash = pay(book.cash, money);
+    book.intraday_paid = [0i64; SERIES * ACCOUNTS];
     book.intraday_done = false;
     book.trades = 0;
     book.day = day + 1;
     Step {
         answer: Answer::Done,
-        money: money,
-        book: book,
+        money,
+        book,
     }
 }

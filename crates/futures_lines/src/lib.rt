@@ -23,11 +23,9 @@ fn series_futures(
     ensures upper_bound { result ≤ at + rule.accounts_room }
 {
     let mut next = at;
-    let mut a: usize = 0;
-    while a < ACCOUNTS {
+    for a in 0..ACCOUNTS {
         let arisen = account_places::of_account(&after, a) - account_places::of_account(&before, a);
         next = lines::futures(out, next, row, i, a as u8, arisen);
-        a += 1;
     }
     next
 }
@@ -45,14 +43,8 @@ pub fn futures(
     ensures upper_bound { result ≤ at + rule.futures_room }
 {
     let mut next = at;
-    let mut i: usize = 0;
-    while i < SERIES {
-        let old = before[i];
-        let new = after[i];
-        let held = old.futures;
-        let now = new.futures;
-        next = series_futures(out, next, row, i as u8, held, now);
-        i += 1;
+    for i in 0..SERIES {
+        next = series_futures(out, next, row, i as u8, before[i].futures, after[i].futures);
     }
     next
 }

@@ -9,6 +9,7 @@ ghost use Rattle.exercise.specs.Evening.{exercised_at};
 
 use exercise::types::Fixing;
 use places::PLACES;
+use std::array::from_fn;
 use terms::OptionType;
 
 // The contracts that a position holds, 0 where it is short.
@@ -16,18 +17,6 @@ pub fn held(position: i32) -> u32
     ensures { result ≡ rule.held position }
 {
     if position > 0 { position as u32 } else { 0 }
-}
-
-fn smaller(a: u32, b: u32) -> u32
-    ensures { result ≡ min a b }
-{
-    if a < b { a } else { b }
-}
-
-fn larger(a: u32, b: u32) -> u32
-    ensures { result ≡ max a b }
-{
-    if a < b { b } else { a }
 }
 
 // A call with strike below the futures price, or a put with strike above it.
@@ -57,12 +46,11 @@ fn automatic(fixing: Fixing, h: u32) -> u32
     if !fixing.last {
         return 0;
     }
-    let option = fixing.option;
-    if in_the_money(option, fixing.strike, fixing.price) {
+    if in_the_money(fixing.option, fixing.strike, fixing.price) {
         return h;
     }
     if fixing.strike == fixing.price {
-        return half(option, h);
+        return half(fixing.option, h);
     }
     0
 }
@@ -72,7 +60,7 @@ pub fn exercised(fixing: Fixing, position: i32, request: u32, declined: bool) ->
     ensures { result ≡ rule.exercised fixing position request declined }
 {
     let h = held(position);
-    let wanted = smaller(h, larger(request, automatic(fixing, h)));
+    let wanted = h.min(request.max(automatic(fixing, h)));
     if declined { 0 } else { wanted }
 }
 
@@ -85,11 +73,5 @@ pub fn exercised_by_place(
 ) -> [u32; PLACES]
     ensures { result ≡ table places (exercised_at places fixing (at positions) (amount requests) (flag declined)) }
 {
-    let mut out = [0u32; PLACES];
-    let mut place: usize = 0;
-    while place < PLACES {
-        out[place] = exercised(fixing, positions[place], requests[place], declined[place]);
-        place += 1;
-    }
-    out
+    from_fn(|place| exercised(fixing, positions[place], requests[place], declined[place]))
 }

@@ -1,12 +1,17 @@
 -- Laws of tables, and the invariants of loops that fill or change an array.
-use mathlib.Core.Path.{◌≡◌, refl, sym, ap, ◌∙◌}
-use mathlib.Core.List.{List}
+use mathlib.Core.Path.{◌≡◌, refl, sym, ap, ◌∙◌, subst}
+use mathlib.Core.List.{List, [], ◌∷◌}
 use Prim.Native.Nat.{ℕ, zero, suc, ◌+◌, ◌<◌, ◌≤◌}
 use native.Mathlib.Nat.{le_of_suc-le-suc, not-suc-le-zero}
 use native.Mathlib.Decide.{ℕ_discrete, dec_lt}
 use native.Mathlib.Omega.{arith}
 use lib.ListN.{length, get_or, set, replicate, length-set, length-replicate, get_or-replicate, get_or-eq_default}
 use lib.Seq.{ext_get_or, get_or-set_same, get_or-set_other}
+use denote.Param.Members.{Mut, Called}
+use Rattle.std.specs.Array.{IsFromFnResultFrom, IsFromFnResult}
+use Rattle.std.specs.Array.{index_steps}
+use Rattle.std.specs.Iterator.{CallableAtEachTurn}
+use Rattle.std.specs.List.{FoldsTo}
 use Rattle.integer.specs.Table.{table}
 
 pub not_below : (a b : ℕ) → ¬ (a < b) → b ≤ a
@@ -108,3 +113,30 @@ module _ {A : Type 0} where
       by : (k : ℕ) → k < n → Dec (k < i) → get_or l k d ≡ f k
       by k lt (yes below) = h.done k below
       by k lt (no above) = h.left k (past k above) ∙ rest k (past k above) lt
+
+  -- ---- an array made by calls of a closure that each give f at their index, and leave the closure as it was
+  module _ {F : Type 0} (g : Mut F (ℕ × Unit {0}) A) (c : F) (f : ℕ → A) (n : ℕ) (call : (i : ℕ) (x : A) (d : F) → i < n → Called g c (i, tt) x d → (x ≡ f i) × (d ≡ c)) where
+    made_from : (l : List A) (m i : ℕ) (d : F) → i + m ≡ n → d ≡ c → IsFromFnResultFrom g d l i m → (k : ℕ) (e : A) → i ≤ k → k < n → get_or l k e ≡ f k
+    made_from l zero i d s same t k e le lt = absurd (none lt)
+      where
+        none : k < n → ⊥
+        none lt = omega arith
+    made_from l (suc m) i d s same (q, x, is, called, rest) k e le lt =
+        by (ℕ_discrete k i) (call i x q (omega arith) (subst (λ (p : F). Called g p (i, tt) x q) same called))
+        (λ b past. made_from l m (i + 1) q (omega arith) b rest k e past lt)
+      where
+        by : Dec (k ≡ i) → (x ≡ f i) × (q ≡ c) → (q ≡ c → i + 1 ≤ k → get_or l k e ≡ f k) → get_or l k e ≡ f k
+        by (yes w) b next = rw w (is.1 e ∙ b.0)
+        by (no w) b next = next b.1 (omega arith)
+
+    pub made_table : (l : List A) → IsFromFnResult g c l n → l ≡ table n f
+    made_table l r = is_table n f l (f 0) r.long (λ k lt. made_from l n 0 c (omega arith) refl r.each k (f 0) (omega arith) lt)
+
+-- such a closure may be called at each index below n, where calls leave it as it was
+stayed : {F : Type 0} (R : F → ℕ → F → Type 0) (c : F) → ((i : ℕ) (d : F) → R c i d → d ≡ c) → (is : List ℕ) (d e : F) → d ≡ c → FoldsTo R d is e → e ≡ c
+stayed R c stays [] d e w h = sym h ∙ w
+stayed {F} R c stays (i ∷ is) d e w h = stayed R c stays is h.0 e (stays i h.0 (subst (λ (p : F). R p i h.0) w h.1)) h.2
+
+pub may_be_called : {F : Type 0} {R : F → ℕ → F → Type 0} {Q : F → ℕ → Type 0} {c : F} (n : ℕ) → ((i : ℕ) (d : F) → R c i d → d ≡ c) → ((i : ℕ) → i < n → Q c i)
+    → CallableAtEachTurn (index_steps n) R Q 0 c
+may_be_called {F} {R} {Q} {c} n stays may = record { at = λ is t d i u y h s. subst (λ (p : F). Q p i) (sym (stayed R c stays is c d refl h)) (may i (omega (arith, s))) }

@@ -19,26 +19,20 @@ pub fn carried_out(mut book: Book) -> Step
     ensures { result ≡ rule.carried_out book happening.Event.Intraday }
 {
     let day = book.day;
-    let listed = book.listed;
-    let blotter = book.blotter;
-    let mut margin = traded(blotter, book.trades, coefficients(book));
-    let mut i: usize = 0;
-    while i < listed {
+    let mut margin = traded(book.blotter, book.trades, coefficients(book));
+    for i in 0..book.listed {
         let s = book.series[i];
         let next = after_intraday(s, day);
         revalue_series(&mut margin, i, s, next, day);
         book.series[i] = next;
-        i += 1;
     }
     let money = in_all(&margin);
-    let cash = book.cash;
-    let paid = pay(cash, money);
-    book.cash = paid;
+    book.cash = pay(book.cash, money);
     book.intraday_paid = margin;
     book.intraday_done = true;
     Step {
         answer: Answer::Done,
-        money: money,
-        book: book,
+        money,
+        book,
     }
 }

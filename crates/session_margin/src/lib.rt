@@ -16,6 +16,7 @@ ghost use Rattle.book.specs.State.{series_at};
 use amounts::revalue;
 use book::state::Book;
 use series::state::Series;
+use std::array::from_fn;
 use terms::bounds::{ACCOUNTS, SERIES};
 use valuation::value;
 
@@ -24,14 +25,7 @@ pub fn coefficients(book: Book) -> [u32; SERIES]
     requires { Good book }
     ensures { result ≡ table series_room (λ i. (series_at book i).mark.coefficient) }
 {
-    let mut out = [0u32; SERIES];
-    let mut i: usize = 0;
-    while i < SERIES {
-        let s = book.series[i];
-        out[i] = s.mark.coefficient;
-        i += 1;
-    }
-    out
+    from_fn(|i| book.series[i].mark.coefficient)
 }
 
 // The variation margin of a live series in the place of what its trades cost, where `next` is the series after the session.
@@ -51,7 +45,12 @@ pub fn revalue_series(
     let c = s.mark.coefficient;
     let price_value = value(c, s.mark.option);
     let evening_value = value(c, s.evening_price);
-    let positions = next.positions;
-    let opening = s.opening;
-    revalue(amounts, i, positions, opening, price_value, evening_value);
+    revalue(
+        amounts,
+        i,
+        next.positions,
+        s.opening,
+        price_value,
+        evening_value,
+    );
 }

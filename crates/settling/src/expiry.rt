@@ -13,6 +13,7 @@ use exercise::types::Fixing;
 use marking::change::no_mark;
 use places::PLACES;
 use series::state::Series;
+use std::array::from_fn;
 
 // The positions that stand after the evening: those that remain, 0 on the last day.
 fn closing(remaining: [i32; PLACES], last: bool) -> [i32; PLACES]
@@ -26,13 +27,7 @@ fn grown(futures: [i32; PLACES], arisen: [i32; PLACES]) -> [i32; PLACES]
     requires { (Bounded max_futures futures) × (Bounded max_position arisen) }
     ensures { result ≡ table places (λ k. at futures k +ℤ at arisen k) }
 {
-    let mut out = [0i32; PLACES];
-    let mut place: usize = 0;
-    while place < PLACES {
-        out[place] = futures[place] + arisen[place];
-        place += 1;
-    }
-    out
+    from_fn(|place| futures[place] + arisen[place])
 }
 
 // The series after the evening of a day: exercise, then expiry.
@@ -40,32 +35,23 @@ pub fn settle(s: Series, day: u32) -> Series
     requires { (GoodSeries day s) × (day ≤ final_day) }
     ensures { result ≡ rule.settled s day }
 {
-    let listing = s.listing;
-    let option = listing.option;
-    let last = day == listing.last_day;
+    let last = day == s.listing.last_day;
     let fixing = Fixing {
-        option: option,
-        last: last,
-        strike: listing.strike,
+        option: s.listing.option,
+        last,
+        strike: s.listing.strike,
         price: s.mark.future,
     };
-    let held = s.positions;
-    let requests = s.requests;
-    let declined = s.declined;
-    let outcome = delivery::evening(fixing, held, requests, declined);
-    let remaining = outcome.positions;
-    let arisen = outcome.futures;
-    let positions = closing(remaining, last);
-    let futures = s.futures;
-    let mark = no_mark();
+    let outcome = delivery::evening(fixing, s.positions, s.requests, s.declined);
+    let positions = closing(outcome.positions, last);
     Series {
-        listing: listing,
-        mark: mark,
+        listing: s.listing,
+        mark: no_mark(),
         evening_price: s.mark.option,
-        positions: positions,
+        positions,
         opening: positions,
         requests: [0u32; PLACES],
         declined: [false; PLACES],
-        futures: grown(futures, arisen),
+        futures: grown(s.futures, outcome.futures),
     }
 }

@@ -24,7 +24,8 @@ pub fn after_intraday(s: Series, day: u32) -> Series
     unmark(s)
 }
 
-// A series as the evening session leaves it, if it is live.
+// A series as the evening session leaves it, if it is live. It repeats the test of `after_intraday`: one function with the step as a
+// parameter would be longer than both.
 pub fn after_evening(s: Series, day: u32) -> Series
     requires { (GoodSeries day s) × (day ≤ final_day) }
     ensures { result ≡ choose (not (expired s day)) (settled s day) s }

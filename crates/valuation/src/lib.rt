@@ -21,12 +21,12 @@ pub fn rounded(n: u64, d: u64) -> u64
 pub fn coefficient(tick_value: u32, tick: u32) -> u64
     ensures { result ≡ coefficient_of tick_value tick }
 {
-    rounded(tick_value as u64 * 100, tick as u64)
+    rounded(u64::from(tick_value) * 100, u64::from(tick))
 }
 
 // The value of a price, in hundredths, in kopecks.
 pub fn value(coefficient: u32, price: u32) -> u64
     ensures { result ≡ value_of coefficient price }
 {
-    rounded(price as u64 * coefficient as u64, 100000)
+    rounded(u64::from(price) * u64::from(coefficient), 100000)
 }

@@ -12,16 +12,17 @@ ghost use Rattle.places.specs.Places.{places, amount};
 ghost use Rattle.exercise.specs.Exercise as rule;
 ghost use Rattle.exercise.specs.Assignment.{whole_part, remainder, assigned};
 
-use crate::sum::{total, wide};
+use crate::sum::total;
 use exercise::types::Shares;
 use places::PLACES;
+use std::array::from_fn;
 
 // The contracts that a position is short, 0 where it holds.
 fn short(position: i32) -> u32
     ensures { result ≡ rule.short position }
 {
     if position < 0 {
-        (-(position as i64)) as u32
+        position.unsigned_abs()
     } else {
         0
     }
@@ -31,13 +32,7 @@ fn short(position: i32) -> u32
 fn short_by_place(positions: [i32; PLACES]) -> [u32; PLACES]
     ensures { result ≡ table places (λ k. rule.short (at positions k)) }
 {
-    let mut out = [0u32; PLACES];
-    let mut place: usize = 0;
-    while place < PLACES {
-        out[place] = short(positions[place]);
-        place += 1;
-    }
-    out
+    from_fn(|place| short(positions[place]))
 }
 
 // Each writer's share of `exercised` contracts, where the writers are short `interest` in all. Who is short of nothing has 0 without a
@@ -47,20 +42,15 @@ fn shares(exercised: u64, interest: u64, shorts: [u32; PLACES]) -> Shares
     ensures { result ≡ record { whole = table places (whole_part exercised interest (amount shorts)); remainder = table places (remainder exercised interest (amount shorts)) } }
 {
     let mut whole = [0u32; PLACES];
-    let mut rest = [0u32; PLACES];
-    let mut place: usize = 0;
-    while place < PLACES {
+    let mut remainder = [0u32; PLACES];
+    for place in 0..PLACES {
         if shorts[place] != 0 {
-            let product = exercised * wide(shorts[place]);
+            let product = exercised * u64::from(shorts[place]);
             whole[place] = (product / interest) as u32;
-            rest[place] = (product % interest) as u32;
+            remainder[place] = (product % interest) as u32;
         }
-        place += 1;
     }
-    Shares {
-        whole: whole,
-        remainder: rest,
-    }
+    Shares { whole, remainder }
 }
 
 // What each writer is assigned of `exercised` contracts: its whole part, and one more at the largest remainder for each

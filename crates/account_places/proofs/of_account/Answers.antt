@@ -7,7 +7,7 @@ use lib.IntN.{ℤ, ◌+ℤ◌}
 use mir.Syntax.{w32, w64}
 use mir.Val.{to_z}
 use Rattle.integer.proofs.Bounds.{within_le, within_pos, within_add}
-use Rattle.integer.proofs.Machine.{Reads, same, any, plus, local, fits}
+use Rattle.integer.proofs.Machine.{Reads, same, any, plus, local}
 use Rattle.integer.specs.Sum.{sum_to}
 use Rattle.integer.proofs.Sum.{sum_to_zero, sum_to_next}
 use Rattle.integer.specs.Table.{at}
@@ -42,15 +42,6 @@ module _ (c : After-sum-1) where
 
 pub loop-section-init : goal.loop-section-init
 loop-section-init c = (omega arith, sym (sum_to_zero _), rw (sum_to_zero (λ s. at c.args.numbers.now (place_in c.args.account s))) (within_pos (omega arith)))
-
-pub bounds-numbers-place_in : goal.bounds-numbers-place_in
-bounds-numbers-place_in c = c.place_in.ensures.upper_bound
-
-pub overflow_cast-sum : goal.overflow_cast-sum
-overflow_cast-sum c = fits w64 (number c) tt
-
-pub overflow_add-sum : goal.overflow_add-sum
-overflow_add-sum c = fits w64 (summed c) tt
 
 pub loop-section-preserved : goal.loop-section-preserved
 loop-section-preserved c =

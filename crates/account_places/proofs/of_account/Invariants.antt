@@ -1,5 +1,5 @@
 use mathlib.Core.Path.{◌≡◌}
-use Prim.Native.Nat.{ℕ, ◌*◌, ◌-◌, ◌≤◌}
+use Prim.Native.Nat.{ℕ, ◌*◌, ◌≤◌}
 use Rattle.integer.specs.Bounds.{Within}
 use Rattle.integer.specs.Sum.{sum_to}
 use Rattle.integer.specs.Table.{at}
@@ -13,6 +13,3 @@ most = 2147483648
 abbrev pub invariant-loop-section : goal.invariant-loop-section
 invariant-loop-section l =
     (l.section ≤ sections) × (l.sum ≡ sum_to l.section (λ s. at l.numbers (place_in l.account s))) × Within (l.section * most) (sum_to l.section (λ s. at l.numbers (place_in l.account s)))
-
-abbrev pub decreases-loop-section : goal.decreases-loop-section
-decreases-loop-section l = sections - l.section

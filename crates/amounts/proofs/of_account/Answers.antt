@@ -1,5 +1,5 @@
 -- `amounts::of_account` meets its contract: after i series the sum is that of those i.
-use mathlib.Core.Path.{◌≡◌, sym, ◌∙◌}
+use mathlib.Core.Path.{sym, ◌∙◌}
 use Prim.Native.Nat.{◌+◌, ◌*◌}
 use native.Mathlib.Nat.{mul-le-mul_right}
 use native.Mathlib.Omega.{arith}
@@ -14,7 +14,6 @@ use Rattle.integer.specs.Table.{at}
 use Rattle.terms.specs.Bounds.{series_room}
 use Rattle.margin.specs.Bounds.{most_in_a_series}
 use Rattle.margin.specs.BySeries.{cell}
-use Rattle.margin.proofs.BySeries.{cell_below}
 use Rattle.amounts.proofs.of_account.Goals.{In-loop-i}
 use Rattle.amounts.proofs.of_account.Goals as goal
 
@@ -30,13 +29,6 @@ module _ (c : In-loop-i) where
 pub loop-i-init : goal.loop-i-init
 loop-i-init c = (omega arith, sym (sum_to_zero _))
 
-pub offset_bounds-amounts-i : goal.offset_bounds-amounts-i
-offset_bounds-amounts-i c =
-    omega (arith, cell_below c.loop-i.i c.args.account (omega arith) c.requires.1)
-
-pub bounds-amounts-i : goal.bounds-amounts-i
-bounds-amounts-i c = cell_below _ _ (omega arith) c.requires.1
-
 pub overflow_add-sum-in-loop-i : goal.overflow_add-sum-in-loop-i
 overflow_add-sum-in-loop-i c = fits w64 (summed c.before) tt
 
@@ -44,8 +36,3 @@ pub loop-i-preserved : goal.loop-i-preserved
 loop-i-preserved c =
     let l = c.before in
     (omega arith, (local w64 (summed l) tt).is ∙ sym (sum_to_next l.loop-i.i _))
-
-pub returns : goal.returns
-returns c =
-    let e : c.loop-i.i ≡ series_room = omega arith in
-    rw e at c.loop-i.invariant.1

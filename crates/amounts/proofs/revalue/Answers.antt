@@ -13,7 +13,7 @@ use Rattle.places.proofs.Places.{limited_of_account}
 use Rattle.terms.specs.Bounds.{max_position}
 use Rattle.margin.specs.Bounds.{max_gain, max_traded}
 use Rattle.margin.specs.BySeries.{cell, cells}
-use Rattle.margin.proofs.BySeries.{row_start, row_at, row_next, row_all, cell_below}
+use Rattle.margin.proofs.BySeries.{row_at, row_next, row_all, cell_below}
 use Rattle.amounts.proofs.Fits.{worth_fits, gain_fits, margin_read, margin_fits}
 use Rattle.amounts.proofs.revalue.Goals.{After-of_account-b, In-loop-a, Start}
 use Rattle.amounts.proofs.revalue.Goals as goal
@@ -60,18 +60,6 @@ module _ (c : After-of_account-b) where
 
 -- ---- what the code asks, in its order
 
-pub overflow_mul-first : goal.overflow_mul-first
-overflow_mul-first c = omega (arith, c.requires.0.series)
-
-pub loop-a-init : goal.loop-a-init
-loop-a-init c = (omega arith, row_start _ _ _ c.requires.0.long)
-
-pub of_account-n-requires : goal.of_account-n-requires
-of_account-n-requires c = c.loop-a-test.true
-
-pub of_account-b-requires : goal.of_account-b-requires
-of_account-b-requires c = c.loop-a-test.true
-
 pub overflow_mul-gain : goal.overflow_mul-gain
 overflow_mul-gain c = worth_fits (n_small c) (start c).requires.1.value
 
@@ -81,26 +69,8 @@ overflow_mul-gain-in-loop-a c = worth_fits (b_small c) (start c).requires.1.even
 pub overflow_sub-gain : goal.overflow_sub-gain
 overflow_sub-gain c = gain_fits (n_small c) (start c).requires.1.value (b_small c) (start c).requires.1.evening
 
-pub overflow_add-amounts : goal.overflow_add-amounts
-overflow_add-amounts c = omega (arith, inside (turn c))
-
-pub offset_bounds-amounts-first : goal.offset_bounds-amounts-first
-offset_bounds-amounts-first c = omega (arith, inside (turn c))
-
-pub bounds-amounts-first : goal.bounds-amounts-first
-bounds-amounts-first c = omega (arith, inside (turn c))
-
 pub overflow_sub-amounts : goal.overflow_sub-amounts
 overflow_sub-amounts c = margin_fits (n_small c.before) (start c.before).requires.1.value (b_small c.before) (start c.before).requires.1.evening (cost_small (turn c.before))
-
-pub overflow_add-first : goal.overflow_add-first
-overflow_add-first c = omega (arith, inside (turn c.before))
-
-pub offset_bounds-amounts-first-in-loop-a : goal.offset_bounds-amounts-first-in-loop-a
-offset_bounds-amounts-first-in-loop-a c = omega (arith, inside (turn c.before))
-
-pub bounds-amounts-first-in-loop-a : goal.bounds-amounts-first-in-loop-a
-bounds-amounts-first-in-loop-a c = omega (arith, inside (turn c.before))
 
 pub loop-a-preserved : goal.loop-a-preserved
 loop-a-preserved c =

@@ -103,9 +103,6 @@ bounds-out-buyer c = omega (arith, bought (turn c), sold (turn c))
 pub overflow_add-out : goal.overflow_add-out
 overflow_add-out c = fits w64 (more_by c.before _) tt
 
-pub offset_bounds-out-buyer-in-loop-k : goal.offset_bounds-out-buyer-in-loop-k
-offset_bounds-out-buyer-in-loop-k c = omega (arith, bought (turn c.before), sold (turn c.before))
-
 pub bounds-out-buyer-in-loop-k : goal.bounds-out-buyer-in-loop-k
 bounds-out-buyer-in-loop-k c = omega (arith, bought (turn c.before), sold (turn c.before))
 
@@ -117,9 +114,6 @@ bounds-out-seller c = omega (arith, bought (turn c.before), sold (turn c.before)
 
 pub overflow_sub-out : goal.overflow_sub-out
 overflow_sub-out c = fits w64 (minus (param w64 ((stored c.before.before _ _).each _) tt) (owed c.before.before)) tt
-
-pub offset_bounds-out-seller-in-loop-k : goal.offset_bounds-out-seller-in-loop-k
-offset_bounds-out-seller-in-loop-k c = omega (arith, bought (turn c.before.before), sold (turn c.before.before))
 
 pub bounds-out-seller-in-loop-k : goal.bounds-out-seller-in-loop-k
 bounds-out-seller-in-loop-k c = omega (arith, bought (turn c.before.before), sold (turn c.before.before))

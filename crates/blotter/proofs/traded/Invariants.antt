@@ -1,4 +1,4 @@
-use Prim.Native.Nat.{◌-◌, ◌≤◌}
+use Prim.Native.Nat.{◌≤◌}
 use lib.ListN.{get_or}
 use Rattle.margin.specs.Margin.{trades_cost}
 use Rattle.margin.proofs.BySeries.{Holds}
@@ -7,6 +7,3 @@ use Rattle.blotter.proofs.traded.Given as goal
 abbrev pub invariant-loop-k : goal.invariant-loop-k
 invariant-loop-k l =
     (l.k ≤ l.trades) × Holds l.out (λ i a. trades_cost l.blotter l.k i (get_or l.coefficients i 0) a)
-
-abbrev pub decreases-loop-k : goal.decreases-loop-k
-decreases-loop-k l = l.trades - l.k

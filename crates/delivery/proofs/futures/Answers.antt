@@ -2,7 +2,7 @@
 use Prim.Native.Nat.{ℕ, ◌+◌, ◌≤◌}
 use lib.IntN.{pos, ◌-ℤ◌}
 use mir.Syntax.{w32}
-use Rattle.integer.proofs.Machine.{Reads, nat, minus, local, fits}
+use Rattle.integer.proofs.Machine.{Reads, nat, minus, local}
 use Rattle.terms.specs.Bounds.{max_position}
 use Rattle.exercise.specs.Evening.{futures}
 use Rattle.delivery.proofs.futures.Goals as goal
@@ -17,9 +17,3 @@ returns-in-Call c = rw c.in-Call.is (local w32 (less c.requires.0 c.requires.1) 
 pub returns-in-Put : goal.returns-in-Put
 unfolding futures
 returns-in-Put c = rw c.in-Put.is (local w32 (less c.requires.1 c.requires.0) tt).is
-
-pub overflow_sub-result : goal.overflow_sub-result
-overflow_sub-result c = fits w32 (less c.requires.0 c.requires.1) tt
-
-pub overflow_sub-result-in-Put : goal.overflow_sub-result-in-Put
-overflow_sub-result-in-Put c = fits w32 (less c.requires.1 c.requires.0) tt

@@ -2,7 +2,7 @@
 use Prim.Native.Nat.{◌+◌}
 use lib.IntN.{pos, ◌+ℤ◌, ◌-ℤ◌}
 use mir.Syntax.{w32}
-use Rattle.integer.proofs.Machine.{Reads, param, nat, plus, minus, local, fits}
+use Rattle.integer.proofs.Machine.{Reads, param, nat, plus, minus, local}
 use Rattle.terms.specs.Bounds.{max_position}
 use Rattle.exercise.specs.Evening.{shrunk}
 use Rattle.delivery.proofs.shrunk.Goals.{Start}
@@ -14,12 +14,6 @@ module _ (c : Start) where
 
   abbrev left : Reads (max_position + max_position + max_position) (c.args.position -ℤ pos c.args.exercised +ℤ pos c.args.assigned)
   left = plus (local w32 less tt) (nat w32 c.requires.2 tt)
-
-pub overflow_sub-result : goal.overflow_sub-result
-overflow_sub-result c = fits w32 (less c) tt
-
-pub overflow_add-result : goal.overflow_add-result
-overflow_add-result c = fits w32 (left c) tt
 
 pub returns : goal.returns
 unfolding shrunk

@@ -1,4 +1,3 @@
-use Prim.Native.Nat.{◌-◌}
 use Rattle.series.specs.Changes.{settled}
 use Rattle.series.specs.declared.state.Series.{Series}
 use Rattle.book.specs.declared.state.Book.{Book}
@@ -11,6 +10,3 @@ settled_on b s = settled s b.day
 
 abbrev pub invariant-loop-i : goal.invariant-loop-i
 invariant-loop-i l = Passed l.initial.book (settled_on l.initial.book) l.i l.book l.margin
-
-abbrev pub decreases-loop-i : goal.decreases-loop-i
-decreases-loop-i l = l.listed - l.i

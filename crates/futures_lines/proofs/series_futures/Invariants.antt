@@ -1,5 +1,5 @@
 use mathlib.Core.Path.{◌≡◌}
-use Prim.Native.Nat.{◌+◌, ◌-◌, ◌*◌, ◌≤◌}
+use Prim.Native.Nat.{◌+◌, ◌*◌, ◌≤◌}
 use lib.ListN.{length}
 use Rattle.decimal.specs.Put.{Put}
 use Rattle.terms.specs.Bounds.{accounts}
@@ -10,6 +10,3 @@ use Rattle.futures_lines.proofs.series_futures.Given as goal
 abbrev pub invariant-loop-a : goal.invariant-loop-a
 invariant-loop-a l =
     (l.a ≤ accounts) × (length l.out ≡ length l.initial.out) × (l.next ≤ l.at + l.a * line_room) × Put l.initial.out l.at (in_turn l.a (λ a. futures_line l.row l.i a (added l.before l.after a))) l.out l.next
-
-abbrev pub decreases-loop-a : goal.decreases-loop-a
-decreases-loop-a l = accounts - l.a

@@ -1,4 +1,4 @@
-use Prim.Native.Nat.{◌-◌, ◌≤◌}
+use Prim.Native.Nat.{◌≤◌}
 use lib.ListN.{get_or}
 use Rattle.integer.proofs.Table.{Updated}
 use Rattle.terms.specs.Bounds.{series_room}
@@ -9,6 +9,3 @@ use Rattle.positions_apart.proofs.put_back.Given as goal
 
 abbrev pub invariant-loop-i : goal.invariant-loop-i
 invariant-loop-i l = (l.i ≤ series_room) × Updated series_room l.i l.series l.initial.series no_series (λ k. with_positions (get_or l.initial.series k no_series) (held_at l.held k).positions)
-
-abbrev pub decreases-loop-i : goal.decreases-loop-i
-decreases-loop-i l = series_room - l.i

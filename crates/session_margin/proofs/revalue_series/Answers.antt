@@ -11,20 +11,17 @@ returns-then-s-day c = past _ (ap not (lt-ltb _ _ c.if-s-day.true)) refl
 
 pub revalue-requires : goal.revalue-requires
 revalue-requires c =
-    let v = c.before.before.before in
-    let b = v.before.before.before.before in
-    let g = b.requires.1 in (
-      b.requires.0,
+    let g = c.requires.1 in (
+      c.requires.0,
       record {
-        positions = b.requires.2;
+        positions = c.requires.2;
         opening = g.opening_limited;
-        value = rw v.value-price_value.ensures (option_value_bound _ _ g.coefficient g.option);
-        evening = rw v.value-evening_value.ensures (option_value_bound _ _ g.coefficient g.price);
+        value = rw c.value-price_value.ensures (option_value_bound _ _ g.coefficient g.option);
+        evening = rw c.value-evening_value.ensures (option_value_bound _ _ g.coefficient g.price);
       },
     )
 
 pub returns : goal.returns
 returns c =
-    let v = c.before.before.before.before in
-    hit _ (ap not (le-ltb _ _ v.if-s-day.false))
-    (rw (v.value-price_value.ensures, v.value-evening_value.ensures) at c.revalue.ensures)
+    hit _ (ap not (le-ltb _ _ c.if-s-day.false))
+    (rw (c.value-price_value.ensures, c.value-evening_value.ensures) at c.revalue.ensures)

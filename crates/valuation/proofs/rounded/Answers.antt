@@ -3,7 +3,7 @@ use mathlib.Core.Path.{◌≡◌, sym}
 use Prim.Native.Nat.{ℕ, ◌<◌, ◌%◌}
 use native.Mathlib.Nat.{mod-lt}
 use native.Mathlib.Omega.{arith}
-use Rattle.value.proofs.Rounding.{nearest_zero, round_down, round_up, whole_small}
+use Rattle.value.proofs.Rounding.{nearest_zero, round_down, round_up}
 use Rattle.valuation.proofs.rounded.Goals as goal
 
 rest_small : (n d : ℕ) → (d ≡ 0 → ⊥) → n % d < d
@@ -11,17 +11,6 @@ rest_small n d ne = mod-lt n (omega arith)
 
 pub returns-then-d-eq0 : goal.returns-then-d-eq0
 returns-then-d-eq0 c = rw c.if-d-eq0.true (sym (nearest_zero c.args.n))
-
-pub overflow_sub-d : goal.overflow_sub-d
-overflow_sub-d c = omega (arith, rest_small c.args.n c.args.d c.if-d-eq0.false)
-
-pub overflow_add-result : goal.overflow_add-result
-overflow_add-result c =
-    let n = c.args.n in
-    let d = c.args.d in
-    let h : n % d < d = rest_small n d c.if-d-eq0.false in record {
-      fits = omega (arith, whole_small n d h (omega (arith, c.if-rest-d.false)), c.ranges.n.fits);
-    }
 
 pub returns-then-rest-d : goal.returns-then-rest-d
 returns-then-rest-d c =

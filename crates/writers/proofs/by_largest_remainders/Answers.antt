@@ -1,8 +1,8 @@
 -- `writers::by_largest_remainders` meets its contract: after each turn one place more is served, in the order of their ranks. Assumes nothing.
 use borrow.Author.Tests.{le-ltb}
-use mathlib.Core.Path.{◌≡◌, sym, ap, ◌∙◌, subst}
+use mathlib.Core.Path.{◌≡◌, ap, ◌∙◌, subst}
 use mathlib.Core.List.{List}
-use Prim.Native.Nat.{ℕ, ◌≤◌, ◌<◌, ◌-◌, ◌+◌}
+use Prim.Native.Nat.{ℕ, ◌≤◌, ◌<◌, ◌-◌}
 use native.Mathlib.Omega.{arith}
 use lib.Dec.{ltb}
 use Rattle.integer.specs.Sum.{sumℕ, bit, count}
@@ -13,11 +13,8 @@ use Rattle.exercise.specs.declared.types.Shares.{Shares}
 use Rattle.places.specs.Places.{places, amount}
 use Rattle.exercise.specs.Assignment.{whole_part, remainder, rank, assigned}
 use Rattle.writers.proofs.Leftovers as law
-use Rattle.writers.proofs.by_largest_remainders.Goals.{After-loop-place, After-total-2, then-rest-largest, else-rest-largest}
+use Rattle.writers.proofs.by_largest_remainders.Goals.{After-loop-place, After-total-2}
 use Rattle.writers.proofs.by_largest_remainders.Goals as goal
-
-pub shares-parts-requires : goal.shares-parts-requires
-shares-parts-requires c = omega (arith, c.total.ensures)
 
 -- what is known once the shares are worked out
 module _ (c : After-total-2) where
@@ -51,9 +48,6 @@ module _ (c : After-total-2) where
   left_few : e - c.total-2.result ≤ count places (λ k. ltb 0 (amount rest k))
   left_few = omega (arith, c.total-2.ensures, law.left_remainders places e w whole rest some enough whole_is rest_is)
 
-  start : law.Served places (amount rest) (amount whole) whole rest 0
-  start = law.served_start places e w whole rest some enough whole_is rest_is
-
   all : (out rest' : List ℕ) → law.Served places (amount rest) (amount whole) out rest' (e - c.total-2.result) → out ≡ table places (assigned places e w)
   all out rest' S =
       law.all_served places e w whole rest some enough whole_is rest_is out rest'
@@ -61,33 +55,6 @@ module _ (c : After-total-2) where
 
 pub overflow_sub-left : goal.overflow_sub-left
 overflow_sub-left c = omega (arith, in_all c, c.total-2.ensures)
-
-pub loop-init : goal.loop-init
-loop-init c = (omega arith, start c)
-
-pub loop-place-init : goal.loop-place-init
-loop-place-init c = (omega arith, law.largest_start _)
-
-pub offset_bounds-rest-largest : goal.offset_bounds-rest-largest
-offset_bounds-rest-largest c = omega (arith, c.loop-place.invariant.1.below)
-
-pub bounds-rest-largest : goal.bounds-rest-largest
-bounds-rest-largest c = omega (arith, c.loop-place.invariant.1.below)
-
-pub loop-place-smaller : goal.loop-place-smaller
-loop-place-smaller c = omega arith
-
-pub loop-place-preserved : goal.loop-place-preserved
-loop-place-preserved c =
-    let r = amount c.loop.rest in
-    let l = c.loop-place in
-    let to : (m : ℕ) → c.if-rest-largest.largest ≡ m → law.Largest (l.place + 1) r m → law.Largest (l.place + 1) r c.if-rest-largest.largest = λ m e. subst (law.Largest (l.place + 1) r) (sym e) in (
-      omega arith,
-      elim c.if-rest-largest.branch [
-        | then-rest-largest w ↦ to l.place w.largest-is (law.largest_new l.place r l.largest l.invariant.1 w.if-rest-largest.true)
-        | else-rest-largest w ↦ to l.largest w.largest-is (law.largest_kept l.place r l.largest l.invariant.1 w.if-rest-largest.false)
-      ],
-    )
 
 -- the place found is the next to be served
 module _ (c : After-loop-place) where
@@ -119,21 +86,6 @@ overflow_add-out c =
       b.total-2.ensures,
       b.requires,
     )
-
-pub bounds-out-largest-in-loop : goal.bounds-out-largest-in-loop
-bounds-out-largest-in-loop c = (found c).below
-
-pub offset_bounds-rest-largest-in-loop : goal.offset_bounds-rest-largest-in-loop
-offset_bounds-rest-largest-in-loop c = omega (arith, (found c).below)
-
-pub bounds-rest-largest-in-loop : goal.bounds-rest-largest-in-loop
-bounds-rest-largest-in-loop c = (found c).below
-
-pub overflow_step : goal.overflow_step
-overflow_step c = omega (arith, (ready c).requires)
-
-pub loop-smaller : goal.loop-smaller
-loop-smaller c = omega arith
 
 pub loop-preserved : goal.loop-preserved
 loop-preserved c =

@@ -1,17 +1,14 @@
 -- `writers::shares` meets its contract: the places passed have their parts. Assumes nothing.
-use mathlib.Core.Path.{◌≡◌, refl, sym, ap, ◌∙◌}
-use Prim.Native.Nat.{ℕ, ◌≤◌, ◌*◌, ◌/◌, ◌%◌}
-use native.Mathlib.Nat.{mul-le-mul, mul-le-mul_right, mod-lt, div-le_of_le-mul, mul-zero, zero-div, zero-mod}
+use mathlib.Core.Path.{◌≡◌, sym, ap, ◌∙◌}
+use Prim.Native.Nat.{ℕ, ◌*◌, ◌/◌, ◌%◌}
+use native.Mathlib.Nat.{mul-zero, zero-div, zero-mod}
 use native.Mathlib.Omega.{arith}
 use lib.ListN.{get_or, get_or-replicate}
-use Rattle.integer.proofs.Table.{updated_start, updated_next, updated_skip, updated_rest}
+use Rattle.integer.proofs.Table.{updated_next, updated_skip, updated_rest}
 use Rattle.places.specs.Places.{places}
-use Rattle.writers.proofs.shares.Goals.{After-wide, then-shorts-place-ne0, else-shorts-place-ne0}
+use Rattle.writers.proofs.shares.Goals.{then-shorts-place-ne0, else-shorts-place-ne0}
 use Rattle.writers.proofs.shares.Goals as goal
 use Rattle.writers.proofs.shares.Invariants.{none}
-
-pub loop-place-init : goal.loop-place-init
-loop-place-init c = (omega arith, updated_start _ 0 _ refl, updated_start _ 0 _ refl)
 
 -- of nothing there is no part
 no_part : (e o w : ℕ) → w ≡ 0 → 0 ≡ e * w / o
@@ -19,25 +16,6 @@ no_part e o w q = rw (q, mul-zero e) (sym (zero-div o))
 
 no_remainder : (e o w : ℕ) → w ≡ 0 → 0 ≡ e * w % o
 no_remainder e o w q = rw (q, mul-zero e) (sym (zero-mod o))
-
-few : (c : After-wide) → c.args.exercised ≤ 4294967295
-few c = omega arith
-
--- no writer's whole part is more than he is short
-whole_few : (c : After-wide) → c.args.exercised * c.wide.result / c.args.interest ≤ c.wide.result
-whole_few c = div-le_of_le-mul c.args.interest (mul-le-mul_right c.wide.result c.requires.1)
-
-pub overflow_mul-product : goal.overflow_mul-product
-overflow_mul-product c = record { fits = omega (arith, mul-le-mul (few c) c.wide.ensures.1) }
-
-pub overflow_cast-whole : goal.overflow_cast-whole
-overflow_cast-whole c = record { fits = omega (arith, whole_few c, c.wide.ensures.1) }
-
-pub overflow_cast-rest : goal.overflow_cast-rest
-overflow_cast-rest c = record { fits = omega (arith, mod-lt (c.args.exercised * c.wide.result) c.requires.0) }
-
-pub loop-place-smaller : goal.loop-place-smaller
-loop-place-smaller c = omega arith
 
 -- a writer has his parts, and who is short of nothing has none
 pub loop-place-preserved : goal.loop-place-preserved
@@ -48,13 +26,13 @@ loop-place-preserved c =
     elim c.if-shorts-place-ne0.branch [
       | then-shorts-place-ne0 w ↦ (
         omega arith,
-        rw w.whole-is (updated_next l.loop-place.invariant.1 (omega arith) _ (ap (λ (x : ℕ). a.exercised * x / a.interest) w.wide.ensures.0)),
-        rw w.rest-is (updated_next l.loop-place.invariant.2 (omega arith) _ (ap (λ (x : ℕ). a.exercised * x % a.interest) w.wide.ensures.0)),
+        rw w.whole-is (updated_next l.loop-place.invariant.1 (omega arith) _ (ap (λ (x : ℕ). a.exercised * x / a.interest) w.from.ensures)),
+        rw w.remainder-is (updated_next l.loop-place.invariant.2 (omega arith) _ (ap (λ (x : ℕ). a.exercised * x % a.interest) w.from.ensures)),
       )
       | else-shorts-place-ne0 w ↦ (
         omega arith,
         rw w.whole-is (updated_skip l.loop-place.invariant.1 (zero ∙ no_part a.exercised a.interest _ w.if-shorts-place-ne0.false)),
-        rw w.rest-is (updated_skip l.loop-place.invariant.2 (zero ∙ no_remainder a.exercised a.interest _ w.if-shorts-place-ne0.false)),
+        rw w.remainder-is (updated_skip l.loop-place.invariant.2 (zero ∙ no_remainder a.exercised a.interest _ w.if-shorts-place-ne0.false)),
       )
     ]
 

@@ -1,5 +1,5 @@
 use mathlib.Core.List.{List}
-use Prim.Native.Nat.{ℕ, ◌≤◌, ◌-◌}
+use Prim.Native.Nat.{ℕ, ◌≤◌}
 use lib.ListN.{replicate}
 use Rattle.integer.proofs.Table.{Updated}
 use Rattle.places.specs.Places.{places, amount}
@@ -14,7 +14,4 @@ abbrev pub invariant-loop-place : goal.invariant-loop-place
 invariant-loop-place l =
     (l.place ≤ places) ×
     Updated places l.place l.whole none 0 (whole_part l.exercised l.interest (amount l.shorts)) ×
-    Updated places l.place l.rest none 0 (remainder l.exercised l.interest (amount l.shorts))
-
-abbrev pub decreases-loop-place : goal.decreases-loop-place
-decreases-loop-place l = places - l.place
+    Updated places l.place l.remainder none 0 (remainder l.exercised l.interest (amount l.shorts))

@@ -1,26 +1,10 @@
--- `settling::expiry::grown` meets its contract: the loop fills the sums place by place.
-use borrow.Author.Rules.{rules}
-use native.Mathlib.Omega.{arith}
-use lib.IntN.{pos}
+-- `settling::expiry::grown` meets its contract: each place has its sum.
+use Rattle.std.proofs.Common.{rules}
 use mir.Syntax.{w32}
-use Rattle.integer.proofs.Machine.{fits}
-use Rattle.integer.proofs.Table.{filled_start, filled_all}
-use Rattle.margin.proofs.Combined.{sum_at, sum_next}
+use Rattle.integer.proofs.Machine.{local}
+use Rattle.integer.proofs.Table.{made_table}
+use Rattle.margin.proofs.Combined.{sum_at}
 use Rattle.settling.proofs.expiry.grown.Goals as goal
 
-pub loop-place-init : goal.loop-place-init
-loop-place-init c = (omega arith, filled_start _ (pos 0) _ (search rules))
-
-pub overflow_add-out : goal.overflow_add-out
-overflow_add-out c =
-    let s = c.before.before.before.before in
-    fits w32 (sum_at w32 s.requires.0 s.requires.1 tt tt tt c.loop-place.place) tt
-
-pub loop-place-preserved : goal.loop-place-preserved
-loop-place-preserved c =
-    let l = c.before.before in
-    let s = l.before.before in
-    (omega arith, sum_next w32 s.requires.0 s.requires.1 tt tt tt l.loop-place.place l.loop-place.invariant.1 (omega arith))
-
 pub returns : goal.returns
-returns c = filled_all c.loop-place.invariant.1 (omega arith)
+returns c = made_table _ _ _ _ (λ i x d lt call. search (rules, (local w32 (sum_at w32 c.requires.0 c.requires.1 tt tt tt i) tt).is)) _ c.from_fn.ensures.items

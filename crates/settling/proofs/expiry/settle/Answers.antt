@@ -8,26 +8,18 @@ use Rattle.exercise.specs.declared.types.Outcome.{Outcome}
 use Rattle.integer.proofs.Bounds.{bounded_le}
 use Rattle.series.specs.Series.{with_mark, with_requests, with_evening}
 use Rattle.settling.proofs.Settling.{closed, futures_grown, new_futures_bounded}
-use Rattle.settling.proofs.expiry.settle.Goals.{After-evening-outcome, Start}
 use Rattle.settling.proofs.expiry.settle.Goals as goal
 
-abbrev start : After-evening-outcome → Start
-start c = c.before.before.before.before.before.before
-
 pub grown-requires : goal.grown-requires
-grown-requires c =
-    let e = c.before.before.before.before.before in
-    let b = start e in (
-      bounded_le b.requires.0.futures.bounded (omega arith),
-      new_futures_bounded b.args.s b.args.day b.requires.0 _ (ap (λ (o : Outcome). o.futures) e.evening-outcome.ensures),
-    )
+grown-requires c = (
+  bounded_le c.requires.0.futures.bounded (omega arith),
+  new_futures_bounded c.args.s c.args.day c.requires.0 _ (ap (λ (o : Outcome). o.futures) c.evening-outcome.ensures),
+)
 
 pub returns : goal.returns
 returns c =
-    let e = c.before.before.before.before.before.before in
-    let b = start e in
-    let s = b.args.s in
-    let day = b.args.day in
-    let positions = c.closing-positions.ensures ∙ closed s day _ (ap (λ (o : Outcome). o.positions) e.evening-outcome.ensures) in
-    let futures = c.grown.ensures ∙ futures_grown s day _ (ap (λ (o : Outcome). o.futures) e.evening-outcome.ensures) in
-    λ i. with_evening (with_requests (with_mark s (c.no_mark-mark.ensures i)) (replicate places 0) (replicate places false)) s.mark.option (positions i) (futures i)
+    let s = c.args.s in
+    let day = c.args.day in
+    let positions = c.closing-positions.ensures ∙ closed s day _ (ap (λ (o : Outcome). o.positions) c.evening-outcome.ensures) in
+    let futures = c.grown.ensures ∙ futures_grown s day _ (ap (λ (o : Outcome). o.futures) c.evening-outcome.ensures) in
+    λ i. with_evening (with_requests (with_mark s (c.no_mark.ensures i)) (replicate places 0) (replicate places false)) s.mark.option (positions i) (futures i)
