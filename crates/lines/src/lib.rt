@@ -6,7 +6,6 @@ ghost use Rattle.decimal.specs.Put.{Put};
 ghost use Rattle.report.specs.Lines as text;
 ghost use Rattle.report.specs.Report as rule;
 
-
 use terms::refusals::CALENDAR;
 
 // The line that the output begins with.
@@ -19,7 +18,14 @@ pub fn header(out: &mut [u8], at: usize) -> usize
 }
 
 // The number of an answer, with the series that it names and the period that it tells.
-pub fn answer(out: &mut [u8], at: usize, row: u64, found: Option<u8>, told: Option<u8>, number: u64) -> usize
+pub fn answer(
+    out: &mut [u8],
+    at: usize,
+    row: u64,
+    found: Option<u8>,
+    told: Option<u8>,
+    number: u64,
+) -> usize
     requires { at + text.line_room ≤ length out.old }
     ensures put { Put out.old at (rule.answer_line row found told number) out.new result }
     ensures upper_bound { result ≤ at + text.line_room }
