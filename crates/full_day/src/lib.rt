@@ -74,11 +74,9 @@ fn after(mut book: Book, from: usize, count: usize) -> Book
     requires { (Good book) × (from + count ≤ rule.events) }
     ensures { (result ≡ rule.after book from count) × Good result }
 {
-    let mut n = 0;
-    while n < count {
+    for n in 0..count {
         let step = clearing::step(book, event(from + n));
         book = step.book;
-        n += 1;
     }
     book
 }
@@ -89,11 +87,9 @@ pub fn full_day_trades(days: u64) -> u64
 {
     let listed = after(clearing::empty(), 0, SERIES);
     let mut carried_out = 0;
-    let mut n = 0;
-    while n < days {
+    for _ in 0..days {
         let book = after(listed, TRADES, BLOTTER);
         carried_out = std::num::wrapping_add_u64(carried_out, book.trades as u64);
-        n += 1;
     }
     carried_out
 }
@@ -104,11 +100,9 @@ pub fn full_day_evenings(days: u64) -> u64
 {
     let full = after(clearing::empty(), 0, MARKS + SERIES);
     let mut carried_out = 0;
-    let mut n = 0;
-    while n < days {
+    for _ in 0..days {
         let step = clearing::step(full, Event::Evening);
         carried_out = std::num::wrapping_add_u64(carried_out, step.book.day as u64);
-        n += 1;
     }
     carried_out
 }

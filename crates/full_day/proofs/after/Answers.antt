@@ -19,27 +19,21 @@ unfolding rule.after
 loop-n-init c = (refl, c.requires.0, omega arith)
 
 pub overflow_add-from : goal.overflow_add-from
-overflow_add-from c = omega (arith, c.requires.1, c.loop-n-test.true)
+overflow_add-from c = omega (arith, c.requires.1)
 
 pub event-requires : goal.event-requires
-event-requires c = omega (arith, c.requires.1, c.loop-n-test.true)
+event-requires c = omega (arith, c.requires.1)
 
 pub step-step-requires : goal.step-step-requires
 step-step-requires c = c.loop-n.invariant.1
-
-pub overflow_add-n : goal.overflow_add-n
-overflow_add-n c = omega (arith, c.requires.1, c.loop-n-test.true)
-
-pub loop-n-smaller : goal.loop-n-smaller
-loop-n-smaller c = omega (arith, c.loop-n-test.true)
 
 pub loop-n-preserved : goal.loop-n-preserved
 loop-n-preserved c =
     let l = c.loop-n in
     let s = c.step-step in
-    (next _ l.book _ l.n _ s.result l.invariant.0 c.event.ensures s.ensures.0, s.ensures.1, omega (arith, c.loop-n-test.true))
+    (next _ l.book _ l.n _ s.result l.invariant.0 c.event.ensures s.ensures.0, s.ensures.1, omega (arith))
 
 pub returns : goal.returns
 returns c =
     let l = c.loop-n in
-    (l.invariant.0 ∙ ap (rule.after _ _) (omega (arith, l.invariant.2, c.loop-n-test.false)), l.invariant.1)
+    (l.invariant.0 ∙ ap (rule.after _ _) (omega (arith, l.invariant.2)), l.invariant.1)

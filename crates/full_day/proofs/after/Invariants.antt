@@ -1,10 +1,7 @@
-use Rattle.std.proofs.Common.{◌≡◌, ◌-◌, ◌≤◌}
+use Rattle.std.proofs.Common.{◌≡◌, ◌≤◌}
 use Rattle.book.specs.Good.{Good}
 use Rattle.full_day.specs.Day as rule
 use Rattle.full_day.proofs.after.Given as goal
 
 abbrev pub invariant-loop-n : goal.invariant-loop-n
 invariant-loop-n l = (l.book ≡ rule.after l.initial.book l.from l.n) × (Good l.book) × (l.n ≤ l.count)
-
-abbrev pub decreases-loop-n : goal.decreases-loop-n
-decreases-loop-n l = l.count - l.n

@@ -10,17 +10,11 @@ use Rattle.full_day.proofs.full_day_trades.Goals as goal
 pub after-listed-requires : goal.after-listed-requires
 after-listed-requires c = (c.empty.ensures.1, omega arith)
 
-pub loop-n-init : goal.loop-n-init
-loop-n-init c = (none _, omega arith)
+pub loop-init : goal.loop-init
+loop-init c = (none _, omega arith)
 
 pub after-book-requires : goal.after-book-requires
 after-book-requires c = (c.after-listed.ensures.1, omega arith)
-
-pub overflow_add-n : goal.overflow_add-n
-overflow_add-n c = omega (arith, c.loop-n-test.true)
-
-pub loop-n-smaller : goal.loop-n-smaller
-loop-n-smaller c = omega (arith, c.loop-n-test.true)
 
 -- the trades of one day
 traded : (c : After-wrapping_add_u64-carried_out) → c.after-book.result ≡ rule.traded
@@ -28,12 +22,12 @@ traded c =
     c.after-book.ensures.0
     ∙ ap (λ (b : Book). rule.after b series_room blotter_room) (c.after-listed.ensures.0 ∙ ap (λ (b : Book). rule.after b 0 series_room) c.empty.ensures.0)
 
-pub loop-n-preserved : goal.loop-n-preserved
-loop-n-preserved c =
-    let l = c.loop-n in
-    (c.wrapping_add_u64-carried_out.ensures.value ∙ rw (traded c) (one_more l.n (rule.traded).trades l.carried_out l.invariant.0), omega (arith, c.loop-n-test.true))
+pub loop-preserved : goal.loop-preserved
+loop-preserved c =
+    let l = c.loop in
+    (c.wrapping_add_u64-carried_out.ensures.value ∙ rw (traded c) (one_more l.counter (rule.traded).trades l.carried_out l.invariant.0), omega (arith))
 
 pub returns : goal.returns
 returns c =
-    let l = c.loop-n in
-    l.invariant.0 ∙ ap (λ (n : ℕ). n * (rule.traded).trades % 2 ^ 64) (omega (arith, l.invariant.1, c.loop-n-test.false))
+    let l = c.loop in
+    l.invariant.0 ∙ ap (λ (n : ℕ). n * (rule.traded).trades % 2 ^ 64) (omega (arith, l.invariant.1))
