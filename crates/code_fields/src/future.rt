@@ -16,11 +16,7 @@ fn capital(b: u8) -> bool
 fn name_end(i: usize) -> Option<usize>
     ensures { result ≡ name_end i }
 {
-    if i == 0 {
-        None
-    } else {
-        Some(i)
-    }
+    if i == 0 { None } else { Some(i) }
 }
 
 fn name(s: &[u8]) -> Option<usize>

@@ -13,12 +13,10 @@ use contract::types::{Date, Refusal, Verdict};
 pub fn digits(s: &[u8], at: usize) -> Option<(Date, usize)>
     ensures { result ≡ date_at s.now at }
 {
-    let Some((day, b)) = scan::two_digits(s, at)
-    else {
+    let Some((day, b)) = scan::two_digits(s, at) else {
         return None;
     };
-    let Some((month, c)) = scan::two_digits(s, b)
-    else {
+    let Some((month, c)) = scan::two_digits(s, b) else {
         return None;
     };
     let Some((year, next)) = scan::two_digits(s, c) else {

@@ -1,6 +1,5 @@
-use Prim.Native.Nat.{◌-◌}
 use mathlib.Core.Path.{◌≡◌}
-use lib.ListN.{length, drop}
+use lib.ListN.{drop}
 use Rattle.calendar.specs.Days.{dates_of, day_from, day_of}
 use Rattle.calendar_day.proofs.day_of.Given as goal
 
