@@ -8,17 +8,15 @@ use native.Mathlib.Nat.{add-zero}
 use native.Mathlib.Omega.{arith}
 use lib.Dec.{eqb}
 use borrow.Author.Tests.{eq-eqb, eqb-true}
+use Rattle.std.specs.Prelude.{Some, None}
 use Rattle.choice.specs.Choice.{choose}
 use Rattle.decimal.proofs.Choices.{held}
 use Rattle.contract.specs.declared.types.Date.{Date}
 use Rattle.calendar.specs.Days.{same_date, day_from, EarlierInYear, Earlier, Rising, Stands}
-use Rattle.calendar.specs.declared.types.Day.TheVariants.{On, NoDay}
+use Rattle.std.proofs.lemmas.Option.{none-some}
 
 false_true : false ≡ true → ⊥
 false_true e = let z : ◌≡◌ {A = ℕ} 0 1 = cc in omega arith
-
-none_on : (i : ℕ) → NoDay ≡ On i → ⊥
-none_on i e = let z : ◌≡◌ {A = ℕ} 0 1 = cc in omega arith
 
 -- ---- the same date
 abbrev date_by : ℕ → ℕ → ℕ → Date
@@ -53,15 +51,15 @@ pub record Placed (ds : List Date) (i : ℕ) (d : Date) (day : ℕ) : Type 0 whe
   pub stands : Stands ds place d
   pub first : (m : ℕ) → Stands ds m d → place ≤ m
 
-pub placed : (i : ℕ) (ds : List Date) (d : Date) (day : ℕ) → day_from i ds d ≡ On day → Placed ds i d day
+pub placed : (i : ℕ) (ds : List Date) (d : Date) (day : ℕ) → day_from i ds d ≡ Some day → Placed ds i d day
 unfolding day_from choose
-placed i [] d day p = absurd (none_on day p)
+placed i [] d day p = absurd (none-some _ p)
 placed i (e ∷ es) d day p = by_test (same_date e d) refl p (placed (i + 1) es d day)
   where
     by_test : (t : Bool) →
         same_date e d ≡ t →
-        choose t (On i) (day_from (i + 1) es d) ≡ On day →
-        (day_from (i + 1) es d ≡ On day → Placed es (i + 1) d day) →
+        choose t (Some i) (day_from (i + 1) es d) ≡ Some day →
+        (day_from (i + 1) es d ≡ Some day → Placed es (i + 1) d day) →
         Placed (e ∷ es) i d day
     by_test true q p ih =
         let z : i ≡ day = cc in
@@ -78,7 +76,7 @@ placed i (e ∷ es) d day p = by_test (same_date e d) refl p (placed (i + 1) es 
 pub day_at : (i : ℕ) (ds : List Date) (d : Date) (place : ℕ) →
     Stands ds place d →
     ((m : ℕ) → Stands ds m d → place ≤ m) →
-    day_from i ds d ≡ On (i + place)
+    day_from i ds d ≡ Some (i + place)
 unfolding day_from choose
 day_at i [] d place s first = absurd s
 day_at i (e ∷ es) d zero s first = rw (is_same e d s, add-zero i)
@@ -87,32 +85,32 @@ day_at i (e ∷ es) d (suc place) s first = by_test (same_date e d) refl (day_at
     earlier : (m : ℕ) → Stands es m d → place ≤ m
     earlier m t = omega (arith, first (suc m) t)
 
-    by_test : (t : Bool) → same_date e d ≡ t → day_from (i + 1) es d ≡ On (i + 1 + place) → choose t (On i) (day_from (i + 1) es d) ≡ On (i + suc place)
+    by_test : (t : Bool) → same_date e d ≡ t → day_from (i + 1) es d ≡ Some (i + 1 + place) → choose t (Some i) (day_from (i + 1) es d) ≡ Some (i + suc place)
     by_test true q ih = absurd (let h = first 0 (same_is e d q) in omega arith)
     by_test false q ih =
         let z : i + 1 + place ≡ i + suc place = omega arith in
-        ih ∙ ap On z
+        ih ∙ ap Some z
 
-pub none_at : (i : ℕ) (ds : List Date) (d : Date) → ((m : ℕ) → Stands ds m d → ⊥) → day_from i ds d ≡ NoDay
+pub none_at : (i : ℕ) (ds : List Date) (d : Date) → ((m : ℕ) → Stands ds m d → ⊥) → day_from i ds d ≡ None
 unfolding day_from choose
 none_at i [] d f = refl
 none_at i (e ∷ es) d f = by_test (same_date e d) refl (none_at (i + 1) es d (λ m s. f (suc m) s))
   where
-    by_test : (t : Bool) → same_date e d ≡ t → day_from (i + 1) es d ≡ NoDay → choose t (On i) (day_from (i + 1) es d) ≡ NoDay
+    by_test : (t : Bool) → same_date e d ≡ t → day_from (i + 1) es d ≡ None → choose t (Some i) (day_from (i + 1) es d) ≡ None
     by_test true q ih = absurd (f 0 (same_is e d q))
     by_test false q ih = ih
 
-pub none_stands : (i : ℕ) (ds : List Date) (d : Date) → day_from i ds d ≡ NoDay → (m : ℕ) → Stands ds m d → ⊥
+pub none_stands : (i : ℕ) (ds : List Date) (d : Date) → day_from i ds d ≡ None → (m : ℕ) → Stands ds m d → ⊥
 unfolding day_from choose
 none_stands i [] d p m s = s
 none_stands i (e ∷ es) d p m s = by_test (same_date e d) refl p (none_stands (i + 1) es d) m s
   where
     by_test : (t : Bool) →
         same_date e d ≡ t →
-        choose t (On i) (day_from (i + 1) es d) ≡ NoDay →
-        (day_from (i + 1) es d ≡ NoDay → (m : ℕ) → Stands es m d → ⊥) →
+        choose t (Some i) (day_from (i + 1) es d) ≡ None →
+        (day_from (i + 1) es d ≡ None → (m : ℕ) → Stands es m d → ⊥) →
         (m : ℕ) → Stands (e ∷ es) m d → ⊥
-    by_test true q p ih m s = none_on i (sym p)
+    by_test true q p ih m s = none-some _ (sym p)
     by_test false q p ih zero s = false_true (sym q ∙ is_same e d s)
     by_test false q p ih (suc m) s = ih p m s
 

@@ -5,48 +5,48 @@ use mathlib.Core.List.{List, ◌++◌}
 use native.Mathlib.Omega.{arith}
 use lib.ListN.{length, get_or, take, drop, replicate, length-replicate, get_or-replicate}
 use lib.Seq.{sets-eq, get_or-append-add, get_or-drop}
+use Rattle.std.specs.Prelude.{Option, Some, None}
 use Rattle.calendar.specs.Days.{max_dates}
-use Rattle.calendar.specs.Text.{max_text, calendar_of, read_as, Few, ReadAs}
+use Rattle.calendar.specs.Text.{max_text, calendar_of, read_as, Few, Room, ReadAs}
 use Rattle.calendar.specs.File.{missing, unreadable, calendar_by, file_of, InBuffer, LoadedFrom, LoadedBy, Loaded, max_path, path_of}
-use Rattle.calendar.specs.declared.types.CalendarRead.{CalendarRead}
-use Rattle.calendar.specs.declared.types.Contents.{Contents}
-use Rattle.calendar.specs.declared.types.Contents.TheVariants.{Bytes, NotRead}
 use Rattle.calendar.specs.declared.types.Opened.{Opened}
 use Rattle.calendar.specs.declared.types.Opened.TheVariants.{Missing, Readable, Unreadable}
-use Rattle.calendar.specs.declared.types.Reading.{Reading}
-use Rattle.calendar.specs.declared.types.Reading.TheVariants.{Dates, NoCalendar}
+use Rattle.calendar.specs.declared.types.Dates.{Dates}
 
-pub bytes_within : (n count : ℕ) (r : Contents) → InBuffer n r → r ≡ Bytes count → count ≤ n
+pub bytes_within : (n count : ℕ) (r : Option ℕ) → InBuffer n r → r ≡ Some count → count ≤ n
 unfolding InBuffer
 bytes_within n count r w e = rw e at w
 
-pub same_buffer : (m n : ℕ) (r : Contents) → m ≡ n → InBuffer n r → InBuffer m r
+pub same_buffer : (m n : ℕ) (r : Option ℕ) → m ≡ n → InBuffer n r → InBuffer m r
 same_buffer m n r e w = rw e w
 
 -- dates that were read stand in the list
-pub dates_within : (n : ℕ) (r : CalendarRead) → Few r.reading → length r.numbers ≡ max_dates → r.reading ≡ Dates n → n ≤ length r.numbers
-unfolding Few
-dates_within n r f l e = let h : n ≤ max_dates = rw e at f in omega (arith, h, l)
+pub dates_within : (r : Option Dates) (dates : Dates) → Few r → Room r → r ≡ Some dates → dates.count ≤ length dates.numbers
+unfolding Few Room
+dates_within r dates f l e =
+    let few : dates.count ≤ max_dates = rw e at f in
+    let room : length dates.numbers ≡ max_dates = rw e at l in
+    omega (arith, few, room)
 
 -- an answer without dates
-abbrev without : Reading → CalendarRead
-without reading = record { numbers = replicate max_dates 0; reading = reading }
+abbrev without : Option Dates
+without = Some (record { numbers = replicate max_dates 0; count = 0 })
 
-empty_read : ReadAs (without (Dates 0)) (calendar_by missing)
-unfolding read_as Few calendar_by
+empty_read : ReadAs without (calendar_by missing)
+unfolding read_as Few Room calendar_by
 empty_read = record { says = refl; few = omega arith; room = length-replicate {A = ℕ} max_dates 0 }
 
-none_read : ReadAs (without NoCalendar) (calendar_by unreadable)
-unfolding read_as Few calendar_by
-none_read = record { says = refl; few = tt; room = length-replicate {A = ℕ} max_dates 0 }
+none_read : ReadAs None (calendar_by unreadable)
+unfolding read_as Few Room calendar_by
+none_read = record { says = refl; few = tt; room = tt }
 
 -- by what reading the file gave
-module _ {r : CalendarRead} (found : Contents) (buffer : List ℕ) where
-  pub read_bytes : (n : ℕ) → found ≡ Bytes n → ReadAs r (calendar_of (take n buffer)) → ReadAs r (calendar_by (file_of found buffer))
+module _ {r : Option Dates} (found : Option ℕ) (buffer : List ℕ) where
+  pub read_bytes : (n : ℕ) → found ≡ Some n → ReadAs r (calendar_of (take n buffer)) → ReadAs r (calendar_by (file_of found buffer))
   unfolding file_of calendar_by
   read_bytes n e h = rw e h
 
-  pub read_failed : found ≡ NotRead → r ≡ without NoCalendar → ReadAs r (calendar_by (file_of found buffer))
+  pub read_failed : found ≡ None → r ≡ None → ReadAs r (calendar_by (file_of found buffer))
   unfolding file_of
   read_failed e q = rw (e, q) none_read
 
@@ -54,12 +54,12 @@ module _ {r : CalendarRead} (found : Contents) (buffer : List ℕ) where
   read_file n e l w h = record { contents = found; buffer = buffer; room = e ∙ l; within = same_buffer _ _ found e w; read = h }
 
 -- by what opening it told
-module _ {r : CalendarRead} (found : Opened) where
-  pub loaded_missing : found ≡ Missing → r ≡ without (Dates 0) → LoadedBy found r
+module _ {r : Option Dates} (found : Opened) where
+  pub loaded_missing : found ≡ Missing → r ≡ without → LoadedBy found r
   unfolding LoadedBy
   loaded_missing e q = rw (e, q) empty_read
 
-  pub loaded_unreadable : found ≡ Unreadable → r ≡ without NoCalendar → LoadedBy found r
+  pub loaded_unreadable : found ≡ Unreadable → r ≡ None → LoadedBy found r
   unfolding LoadedBy
   loaded_unreadable e q = rw (e, q) none_read
 
@@ -67,7 +67,7 @@ module _ {r : CalendarRead} (found : Opened) where
   unfolding LoadedBy
   loaded_readable e h = rw e h
 
-pub loaded_by : {r : CalendarRead} (found : Opened) → LoadedBy found r → Loaded r
+pub loaded_by : {r : Option Dates} (found : Opened) → LoadedBy found r → Loaded r
 unfolding LoadedBy
 loaded_by Missing h = record { file = missing; read = h }
 loaded_by Unreadable h = record { file = unreadable; read = h }

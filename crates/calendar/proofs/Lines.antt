@@ -8,21 +8,23 @@ use native.Mathlib.Omega.{arith}
 use lib.ListN.{length, drop, length-drop, drop_of_length-le}
 use lib.Dec.{leb, ltb, eqb}
 use borrow.Author.Tests.{le-leb, lt-leb, lt-ltb, eq-eqb, ne_eqb, ltb-true, leb-true, eqb-true}
+use Rattle.std.specs.Prelude.{Some, None, Err}
 use Rattle.choice.specs.Choice.{choose}
 use Rattle.decimal.specs.Scan.{on_scanned, byte_at}
-use Rattle.decimal.specs.declared.Scanned.TheVariants.{Next, Broken}
 use Rattle.decimal.proofs.Choices.{held}
 use Rattle.decimal.proofs.Places.{here_next, here_in}
 use Rattle.contract.specs.Code.{on_verdict}
 use Rattle.contract.specs.Date.{CalendarDate, TwoDigitsEach, date_text, is_date, date_verdict, date_at, on_date}
 use Rattle.contract.specs.declared.types.Date.{Date}
 use Rattle.contract.specs.declared.types.Refusal.TheVariants.{NoDate}
-use Rattle.contract.specs.declared.types.Verdict.TheVariants.{Accepted, Refused}
-use Rattle.contract.specs.declared.types.DateRead.TheVariants.{Dated, Undated}
 use Rattle.contract.proofs.DateField.{date_is, date_in, date_read, date_text_lem, date_accepted, after_date, after_date_text}
-use Rattle.contract.proofs.Scanning.{after_scanned, broken_next, byte_read, byte_text}
+use Rattle.contract.proofs.Scanning.{after_scanned, byte_read, byte_text}
 use Rattle.calendar.specs.Days.{number_of, EachDate}
 use Rattle.calendar.specs.Text.{crlf, lines_text, Calendar, trading, broken, line_end, line_at, onto, lines_from}
+use Rattle.decimal.proofs.Choices.{same_value}
+use Rattle.decimal.proofs.Choices.{same_next}
+use Rattle.std.proofs.lemmas.Option.{none-some}
+use Rattle.contract.specs.Verdict.{passed}
 
 -- ---- the ends of a line
 pub data LineEnd (end : List ℕ) : Type 0 where
@@ -37,22 +39,19 @@ pub record Ended (s : List ℕ) (at n : ℕ) : Type 0 where
   -- bytes are left only behind CRLF
   pub more : (end ≡ crlf) ⊎ (n ≡ length s)
 
-undated : (d : Date) (n : ℕ) → Undated ≡ Dated d n → ⊥
-undated d n e = let z : ◌≡◌ {A = ℕ} 0 1 = cc in omega arith
-
-end_text : (s : List ℕ) (at n : ℕ) → line_end s at ≡ Next n → Ended s at n
+end_text : (s : List ℕ) (at n : ℕ) → line_end s at ≡ Some n → Ended s at n
 unfolding line_end choose
 end_text s at n e = by_test (eqb at (length s)) refl e
   where
     by_test : (t : Bool) →
         eqb at (length s) ≡ t →
-        choose t (Next at) (on_scanned (byte_at s at 13) Broken (λ n. byte_at s n 10)) ≡ Next n →
+        choose t (Some at) (on_scanned (byte_at s at 13) None (λ n. byte_at s n 10)) ≡ Some n →
         Ended s at n
     by_test true q p =
         let z : at ≡ n = cc in
         record { end = []; is_end = no_end refl; text = rw z; more = inr (sym z ∙ eqb-true at (length s) q) }
     by_test false q p =
-        after_scanned Broken (Next n) (broken_next n) (byte_at s at 13) _ p (λ m a b.
+        after_scanned None (Some n) (none-some _) (byte_at s at 13) _ p (λ m a b.
         record {
           end = crlf;
           is_end = crlf_end refl;
@@ -60,7 +59,7 @@ end_text s at n e = by_test (eqb at (length s)) refl e
           more = inl refl;
         })
 
-end_crlf : (s : List ℕ) (at : ℕ) (l : List ℕ) → drop at s ≡ 13 ∷ 10 ∷ l → line_end s at ≡ Next (at + 1 + 1)
+end_crlf : (s : List ℕ) (at : ℕ) (l : List ℕ) → drop at s ≡ 13 ∷ 10 ∷ l → line_end s at ≡ Some (at + 1 + 1)
 unfolding line_end on_scanned choose
 end_crlf s at l e =
     rw (
@@ -69,7 +68,7 @@ end_crlf s at l e =
       byte_read s (at + 1) 10 l (here_next s at 13 (10 ∷ l) e),
     )
 
-end_none : (s : List ℕ) (at : ℕ) → at ≡ length s → line_end s at ≡ Next at
+end_none : (s : List ℕ) (at : ℕ) → at ≡ length s → line_end s at ≡ Some at
 unfolding line_end choose
 end_none s at e = rw (eq-eqb at (length s) e)
 
@@ -79,7 +78,7 @@ after_accepted : {A R : Type 0} (x y : A) → (x ≡ y → ⊥) → (d : Date) (
 unfolding date_verdict on_verdict choose
 after_accepted {A} {R} x y f d fine e g = by_test (is_date d) refl e
   where
-    by_test : (t : Bool) → is_date d ≡ t → on_verdict (choose t Accepted (Refused NoDate)) fine (λ r. x) ≡ y → R
+    by_test : (t : Bool) → is_date d ≡ t → on_verdict (choose t passed (Err NoDate)) fine (λ r. x) ≡ y → R
     by_test true q p = g (date_is d q) p
     by_test false q p = absurd (f p)
 
@@ -90,14 +89,14 @@ pub record LineText (s : List ℕ) (at : ℕ) (d : Date) (n : ℕ) : Type 0 wher
   pub text : drop at s ≡ date_text d ++ drop place s
   pub ended : Ended s place n
 
-pub line_text : (s : List ℕ) (at : ℕ) (d : Date) (n : ℕ) → line_at s at ≡ Dated d n → LineText s at d n
+pub line_text : (s : List ℕ) (at : ℕ) (d : Date) (n : ℕ) → line_at s at ≡ Some (d, n) → LineText s at d n
 unfolding line_at
 line_text s at d n e =
-    after_date Undated (Dated d n) (undated d n) (date_at s at) _ e (λ x m p q.
-    after_accepted Undated (Dated d n) (undated d n) x _ q (λ c q.
-    after_scanned Undated (Dated d n) (undated d n) (line_end s m) _ q (λ k a b.
-    let y : x ≡ d = cc in
-    let z : k ≡ n = cc in
+    after_date None (Some (d, n)) (none-some _) (date_at s at) _ e (λ x m p q.
+    after_accepted None (Some (d, n)) (none-some _) x _ q (λ c q.
+    after_scanned None (Some (d, n)) (none-some _) (line_end s m) _ q (λ k a b.
+    let y : x ≡ d = same_value b in
+    let z : k ≡ n = same_next b in
     let t = date_text_lem s at x m p in
     record {
       date = rw (← y) (c, t.0);
@@ -107,14 +106,14 @@ line_text s at d n e =
     })))
 
 module _ (s : List ℕ) (at : ℕ) (d : Date) (c : CalendarDate d × TwoDigitsEach d) where
-  line_ends : (l : List ℕ) (n : ℕ) → drop at s ≡ date_text d ++ l → line_end s (at + 2 + 2 + 2) ≡ Next n → line_at s at ≡ Dated d n
+  line_ends : (l : List ℕ) (n : ℕ) → drop at s ≡ date_text d ++ l → line_end s (at + 2 + 2 + 2) ≡ Some n → line_at s at ≡ Some (d, n)
   unfolding line_at on_date on_verdict on_scanned
   line_ends l n e q = rw (date_read s at d l c.1 e, ← date_accepted d true (sym (date_in d c.0)) refl, q)
 
-  line_crlf : (l : List ℕ) → drop at s ≡ date_text d ++ (crlf ++ l) → line_at s at ≡ Dated d (at + 2 + 2 + 2 + 1 + 1)
+  line_crlf : (l : List ℕ) → drop at s ≡ date_text d ++ (crlf ++ l) → line_at s at ≡ Some (d, at + 2 + 2 + 2 + 1 + 1)
   line_crlf l e = line_ends (crlf ++ l) _ e (end_crlf s _ l (after_date_text s at d (crlf ++ l) e))
 
-  line_last : drop at s ≡ date_text d ++ [] → line_at s at ≡ Dated d (at + 2 + 2 + 2)
+  line_last : drop at s ≡ date_text d ++ [] → line_at s at ≡ Some (d, at + 2 + 2 + 2)
   line_last e =
       line_ends [] _ e (end_none s _ (omega (arith, sym (length-drop at s) ∙ ap length e)))
 
@@ -205,7 +204,7 @@ lines_text_lem (suc room) s before at ds e = by_test (leb (length s) at) refl e 
 
 -- a line, and then the others
 line_first : (room : ℕ) (s : List ℕ) (before at : ℕ) (d : Date) (n : ℕ) (ds : List Date) →
-    line_at s at ≡ Dated d n →
+    line_at s at ≡ Some (d, n) →
     at < length s →
     before < number_of d →
     lines_from room s (number_of d) n ≡ trading ds →

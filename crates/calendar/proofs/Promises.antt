@@ -7,18 +7,18 @@ use native.Mathlib.Omega.{arith}
 use native.Mathlib.Decide.{dec_lt}
 use lib.ListN.{length, take}
 use lib.Seq.{length-take-le, take_all}
+use Rattle.std.specs.Prelude.{Some, None}
 use Rattle.contract.specs.Date.{TwoDigitsEach}
 use Rattle.contract.specs.declared.types.Date.{Date}
 use Rattle.calendar.specs.Days.{day_of, EarlierInYear, Earlier, Rising, max_dates, EachDate, TradingDates, number_of, date_of, dates_of, Stands}
 use Rattle.calendar.specs.Text.{crlf, lines_text, Says, ended, unended, max_text, Calendar, trading, broken, calendar_of}
 use Rattle.calendar.specs.File.{missing, unreadable, calendar_by}
-use Rattle.calendar.specs.declared.types.Day.TheVariants.{On, NoDay}
 use Rattle.calendar.proofs.Days.{date_by_lem, placed, day_at, none_at, none_stands, one_place_in}
 use Rattle.calendar.proofs.Lines.{LineEnd, crlf_end, no_end, Told, RisingFrom, lines_text_lem, lines_read, lines_length}
 
 -- ---- the day of a date, in every list of dates
 -- A date gets the day that its place says, the first place at which it stands, and no other.
-pub day_is_place : (ds : List Date) (d : Date) (i : ℕ) → (day_of ds d ≡ On i) ↔ (Stands ds i d × ((j : ℕ) → Stands ds j d → i ≤ j))
+pub day_is_place : (ds : List Date) (d : Date) (i : ℕ) → (day_of ds d ≡ Some i) ↔ (Stands ds i d × ((j : ℕ) → Stands ds j d → i ≤ j))
 day_is_place ds d i = (
   λ e.
       let p = placed 0 ds d i e in
@@ -26,7 +26,7 @@ day_is_place ds d i = (
       rw z (p.stands, p.first),
   λ s.
       let z : 0 + i ≡ i = omega arith in
-      day_at 0 ds d i s.0 s.1 ∙ ap On z,
+      day_at 0 ds d i s.0 s.1 ∙ ap Some z,
 )
 
 -- So a list of n dates gives days below n.
@@ -35,16 +35,16 @@ stands_within [] d i s = absurd s
 stands_within (e ∷ es) d zero s = omega arith
 stands_within (e ∷ es) d (suc i) s = omega (arith, stands_within es d i s)
 
-pub day_within : (ds : List Date) (d : Date) (i : ℕ) → day_of ds d ≡ On i → i < length ds
+pub day_within : (ds : List Date) (d : Date) (i : ℕ) → day_of ds d ≡ Some i → i < length ds
 day_within ds d i e = stands_within ds d i ((day_is_place ds d i).0 e).0
 
 -- A date gets no day exactly where it isn't in the list.
-pub no_day : (ds : List Date) (d : Date) → (day_of ds d ≡ NoDay) ↔ ((i : ℕ) → Stands ds i d → ⊥)
+pub no_day : (ds : List Date) (d : Date) → (day_of ds d ≡ None) ↔ ((i : ℕ) → Stands ds i d → ⊥)
 no_day ds d = (none_stands 0 ds d, none_at 0 ds d)
 
 -- No date gets two days.
-pub one_day : (ds : List Date) (d : Date) (i j : ℕ) → day_of ds d ≡ On i → day_of ds d ≡ On j → i ≡ j
-one_day ds d i j p q = let z : On i ≡ On j = sym p ∙ q in cc
+pub one_day : (ds : List Date) (d : Date) (i j : ℕ) → day_of ds d ≡ Some i → day_of ds d ≡ Some j → i ≡ j
+one_day ds d i j p q = let z : Some i ≡ Some j = sym p ∙ q in cc
 
 -- ---- in every list that is strictly rising
 -- No date stands at two places,
@@ -52,7 +52,7 @@ pub one_place : (ds : List Date) → Rising ds → (d : Date) (i j : ℕ) → St
 one_place ds r d i j s t = one_place_in ds d i j r s t
 
 -- and a date in the list gets the day that its place says.
-pub day_of_place : (ds : List Date) → Rising ds → (d : Date) (i : ℕ) → Stands ds i d → day_of ds d ≡ On i
+pub day_of_place : (ds : List Date) → Rising ds → (d : Date) (i : ℕ) → Stands ds i d → day_of ds d ≡ Some i
 day_of_place ds r d i s = (day_is_place ds d i).1 (s, λ m t. omega (arith, one_place ds r d i m s t))
 
 -- ---- dates and their numbers
@@ -145,7 +145,7 @@ calendar_refused text = (
     by_case broken e f = refl
 
 -- So in every calendar that is read a date in the list gets the day that its place says.
-pub day_in_calendar : (text : List ℕ) (ds : List Date) → calendar_of text ≡ trading ds → (d : Date) (i : ℕ) → Stands ds i d → day_of ds d ≡ On i
+pub day_in_calendar : (text : List ℕ) (ds : List Date) → calendar_of text ≡ trading ds → (d : Date) (i : ℕ) → Stands ds i d → day_of ds d ≡ Some i
 day_in_calendar text ds e = day_of_place ds ((calendar_read text ds).0 e).0.rising
 
 -- More bytes than 1,000 lines can have are no calendar,

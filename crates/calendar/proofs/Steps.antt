@@ -8,31 +8,27 @@ use native.Mathlib.Omega.{arith}
 use lib.ListN.{length, get_or, take, drop, set, length-set, drop_of_length-le}
 use lib.Seq.{take-suc-set}
 use borrow.Author.Tests.{le-leb, lt-leb, le-ltb, lt-ltb}
+use Rattle.std.specs.Prelude.{Option, Some, None}
 use Rattle.choice.specs.Choice.{choose}
 use Rattle.decimal.proofs.Places.{drop_next}
 use Rattle.contract.specs.Date.{TwoDigitsEach, on_date}
 use Rattle.contract.specs.declared.types.Date.{Date}
-use Rattle.contract.specs.declared.types.DateRead.{DateRead}
-use Rattle.contract.specs.declared.types.DateRead.TheVariants.{Dated, Undated}
 use Rattle.contract.proofs.DateField.{dated, undated}
 use Rattle.contract.proofs.Scanning.{scanned_next, scanned_broken}
 use Rattle.contract.proofs.WholeLayout.{is_accepted, is_refused}
 use Rattle.calendar.specs.Days.{same_date, day_from, number_of, max_dates, date_of, dates_of}
-use Rattle.calendar.specs.Text.{Calendar, trading, broken, line_at, onto, lines_from, calendar_of, read_as, Few, ReadAs}
-use Rattle.calendar.specs.declared.types.Day.{Day}
-use Rattle.calendar.specs.declared.types.Day.TheVariants.{On, NoDay}
-use Rattle.calendar.specs.declared.types.Reading.TheVariants.{Dates, NoCalendar}
+use Rattle.calendar.specs.Text.{Calendar, trading, broken, line_at, onto, lines_from, calendar_of, read_as, Few, Room, ReadAs}
 use Rattle.calendar.proofs.Promises.{date_of_number}
 use Rattle.calendar.proofs.Lines.{line_text}
 
 -- ---- the search for a date, number by number
-module _ {x : Day} (numbers : List ℕ) (i : ℕ) (d : Date) (e : x ≡ day_from i (dates_of (drop i numbers)) d) where
-  pub day_none : length numbers ≤ i → NoDay ≡ x
+module _ {x : Option ℕ} (numbers : List ℕ) (i : ℕ) (d : Date) (e : x ≡ day_from i (dates_of (drop i numbers)) d) where
+  pub day_none : length numbers ≤ i → None ≡ x
   unfolding day_from
   day_none h = rw (e, drop_of_length-le numbers h)
 
   module _ (h : i < length numbers) (t : Bool) (p : t ≡ same_date (date_of (get_or numbers i 0)) d) where
-    pub day_found : t ≡ true → On i ≡ x
+    pub day_found : t ≡ true → Some i ≡ x
     unfolding day_from choose
     day_found q = rw (e, drop_next numbers i h, ← p, q)
 
@@ -43,7 +39,7 @@ module _ {x : Day} (numbers : List ℕ) (i : ℕ) (d : Date) (e : x ≡ day_from
 -- ---- a line and its end
 pub ruleset fields = (dated, undated, is_accepted, is_refused, scanned_next, scanned_broken)
 
-pub line_digits : (s : List ℕ) (at : ℕ) (r : DateRead) (d : Date) (n : ℕ) → r ≡ line_at s at → r ≡ Dated d n → TwoDigitsEach d
+pub line_digits : (s : List ℕ) (at : ℕ) (r : Option (Date × ℕ)) (d : Date) (n : ℕ) → r ≡ line_at s at → r ≡ Some (d, n) → TwoDigitsEach d
 line_digits s at r d n p q = (line_text s at d n (sym p ∙ q)).date.1
 
 -- ---- the lines from a place on, one by one
@@ -57,12 +53,12 @@ module _ (s : List ℕ) (before at : ℕ) (h : at < length s) where
   unfolding lines_from choose
   lines_full = rw (lt-leb (length s) at h)
 
-  lines_undated : (room : ℕ) → line_at s at ≡ Undated → lines_from room s before at ≡ broken
+  lines_undated : (room : ℕ) → line_at s at ≡ None → lines_from room s before at ≡ broken
   unfolding lines_from on_date choose
   lines_undated zero e = rw (lt-leb (length s) at h)
   lines_undated (suc room) e = rw (lt-leb (length s) at h, e)
 
-  module _ (d : Date) (n : ℕ) (e : line_at s at ≡ Dated d n) where
+  module _ (d : Date) (n : ℕ) (e : line_at s at ≡ Some (d, n)) where
     lines_falling : (room : ℕ) → number_of d ≤ before → lines_from room s before at ≡ broken
     unfolding lines_from on_date choose
     lines_falling zero f = rw (lt-leb (length s) at h)
@@ -101,8 +97,8 @@ module _ {text numbers : List ℕ} {n before at : ℕ} (r : Reached text numbers
   by_rest e = ap (behind (dates_of (take n numbers))) (sym e) ∙ r.all
 
   -- all lines are read
-  pub reached_end : length text ≤ at → ReadAs (record { numbers = numbers; reading = Dates n }) (calendar_of text)
-  unfolding read_as Few behind
+  pub reached_end : length text ≤ at → ReadAs (Some (record { numbers = numbers; count = n })) (calendar_of text)
+  unfolding read_as Few Room behind
   reached_end h = record {
     says = ap trading (sym (append-nil (dates_of (take n numbers)))) ∙ by_rest (lines_none (max_dates - n) text before at h);
     few = r.few;
@@ -111,21 +107,21 @@ module _ {text numbers : List ℕ} {n before at : ℕ} (r : Reached text numbers
 
   module _ (h : at < length text) where
     -- no calendar
-    none_read : lines_from (max_dates - n) text before at ≡ broken → ReadAs (record { numbers = numbers; reading = NoCalendar }) (calendar_of text)
-    unfolding read_as Few behind
-    none_read e = record { says = by_rest e; few = tt; room = r.room }
+    none_read : lines_from (max_dates - n) text before at ≡ broken → ReadAs None (calendar_of text)
+    unfolding read_as Few Room behind
+    none_read e = record { says = by_rest e; few = tt; room = tt }
 
-    pub reached_full : n ≡ max_dates → ReadAs (record { numbers = numbers; reading = NoCalendar }) (calendar_of text)
+    pub reached_full : n ≡ max_dates → ReadAs None (calendar_of text)
     reached_full e =
         let z : max_dates - n ≡ 0 = omega arith in
         none_read (ap (λ (room : ℕ). lines_from room text before at) z ∙ lines_full text before at h)
 
-    module _ (m : DateRead) (p : m ≡ line_at text at) where
-      pub reached_undated : m ≡ Undated → ReadAs (record { numbers = numbers; reading = NoCalendar }) (calendar_of text)
+    module _ (m : Option (Date × ℕ)) (p : m ≡ line_at text at) where
+      pub reached_undated : m ≡ None → ReadAs None (calendar_of text)
       reached_undated q = none_read (lines_undated text before at h (max_dates - n) (sym p ∙ q))
 
-      module _ (d : Date) (next : ℕ) (q : m ≡ Dated d next) (number : ℕ) (e : number ≡ number_of d) where
-        pub reached_falling : number ≤ before → ReadAs (record { numbers = numbers; reading = NoCalendar }) (calendar_of text)
+      module _ (d : Date) (next : ℕ) (q : m ≡ Some (d, next)) (number : ℕ) (e : number ≡ number_of d) where
+        pub reached_falling : number ≤ before → ReadAs None (calendar_of text)
         reached_falling f = none_read (lines_falling text before at h d next (sym p ∙ q) (max_dates - n) (rw e at f))
 
         -- one date more

@@ -1,10 +1,8 @@
 -- The trading calendar (RULES, "Trading calendar"): a list of dates, and the day that each of them has.
-use Rattle.std.specs.Prelude.{ℕ, zero, suc, ◌+◌, ◌*◌, ◌/◌, ◌%◌, ◌≤◌, ◌<◌, ◌≡◌, Bool, false, ◌⊎◌, List, [], ◌∷◌, map, length, eqb}
+use Rattle.std.specs.Prelude.{ℕ, zero, suc, ◌+◌, ◌*◌, ◌/◌, ◌%◌, ◌≤◌, ◌<◌, ◌≡◌, Bool, false, ◌⊎◌, List, [], ◌∷◌, map, length, eqb, Option, Some, None}
 use Rattle.choice.specs.Choice.{choose}
 use Rattle.contract.specs.Date.{CalendarDate, TwoDigitsEach}
 use Rattle.contract.specs.declared.types.Date.{Date}
-use Rattle.calendar.specs.declared.types.Day.{Day}
-use Rattle.calendar.specs.declared.types.Day.TheVariants.{On, NoDay}
 
 -- the same date: day, month and year are
 unfoldable pub same_date : Date → Date → Bool
@@ -12,12 +10,12 @@ same_date d e = choose (eqb d.day e.day) (choose (eqb d.month e.month) (eqb d.ye
 
 -- "a date in the list has the day that its place says": its place, where places are counted from i; "a date that isn't in the list has
 -- none"
-unfoldable pub day_from : ℕ → List Date → Date → Day
-day_from i [] d = NoDay
-day_from i (e ∷ es) d = choose (same_date e d) (On i) (day_from (i + 1) es d)
+unfoldable pub day_from : ℕ → List Date → Date → Option ℕ
+day_from i [] d = None
+day_from i (e ∷ es) d = choose (same_date e d) (Some i) (day_from (i + 1) es d)
 
 -- "The first is day 0, the next day 1, and so on"
-abbrev pub day_of : List Date → Date → Day
+abbrev pub day_of : List Date → Date → Option ℕ
 day_of ds d = day_from 0 ds d
 
 -- one date is before another: by year, then month, then day

@@ -1,19 +1,13 @@
 -- The lines of a calendar (RULES, "Trading calendar"): "DDMMYY and CRLF a line, the last may lack it".
-use Rattle.std.specs.Prelude.{ℕ, zero, suc, ◌+◌, ◌*◌, ◌≤◌, ◌≡◌, List, [], ◌∷◌, ◌++◌, length, take, leb, ltb, eqb}
+use Rattle.std.specs.Prelude.{ℕ, zero, suc, ◌+◌, ◌*◌, ◌≤◌, ◌≡◌, List, [], ◌∷◌, ◌++◌, length, take, leb, ltb, eqb, Option, Some, None}
 use Rattle.choice.specs.Choice.{choose}
 use Rattle.decimal.specs.Scan.{on_scanned, byte_at}
-use Rattle.decimal.specs.declared.Scanned.{Scanned}
-use Rattle.decimal.specs.declared.Scanned.TheVariants.{Next, Broken}
 use Rattle.contract.specs.Bounds.{date_length}
 use Rattle.contract.specs.Code.{on_verdict}
 use Rattle.contract.specs.Date.{date_text, date_verdict, date_at, on_date}
 use Rattle.contract.specs.declared.types.Date.{Date}
-use Rattle.contract.specs.declared.types.DateRead.{DateRead}
-use Rattle.contract.specs.declared.types.DateRead.TheVariants.{Dated, Undated}
 use Rattle.calendar.specs.Days.{max_dates, number_of, dates_of}
-use Rattle.calendar.specs.declared.types.CalendarRead.{CalendarRead}
-use Rattle.calendar.specs.declared.types.Reading.{Reading}
-use Rattle.calendar.specs.declared.types.Reading.TheVariants.{Dates, NoCalendar}
+use Rattle.calendar.specs.declared.types.Dates.{Dates}
 
 -- CR LF
 abbrev pub crlf : List ℕ
@@ -40,14 +34,14 @@ pub data Calendar : Type 0 where
   broken : Calendar
 
 -- Reading, line by line. The end of a line: CRLF, or the end of the bytes.
-unfoldable pub line_end : List ℕ → ℕ → Scanned
-line_end s at = choose (eqb at (length s)) (Next at) (on_scanned (byte_at s at 13) Broken (λ n. byte_at s n 10))
+unfoldable pub line_end : List ℕ → ℕ → Option ℕ
+line_end s at = choose (eqb at (length s)) (Some at) (on_scanned (byte_at s at 13) None (λ n. byte_at s n 10))
 
 -- a line: a date, and the place after the line's end
-unfoldable pub line_at : List ℕ → ℕ → DateRead
+unfoldable pub line_at : List ℕ → ℕ → Option (Date × ℕ)
 line_at s at =
-    on_date (date_at s at) Undated (λ date n.
-    on_verdict (date_verdict date) (on_scanned (line_end s n) Undated (λ next. Dated date next)) (λ r. Undated))
+    on_date (date_at s at) None (λ date n.
+    on_verdict (date_verdict date) (on_scanned (line_end s n) None (λ next. Some (date, next))) (λ r. None))
 
 -- one date more in front
 unfoldable pub onto : Date → Calendar → Calendar
@@ -67,16 +61,21 @@ unfoldable pub calendar_of : List ℕ → Calendar
 calendar_of s = lines_from max_dates s 0 0
 
 -- what the reader answers: the dates that the first of its numbers say
-unfoldable pub read_as : Reading → List ℕ → Calendar
-read_as (Dates n) numbers = trading (dates_of (take n numbers))
-read_as NoCalendar numbers = broken
+unfoldable pub read_as : Option Dates → Calendar
+read_as (Some dates) = trading (dates_of (take dates.count dates.numbers))
+read_as None = broken
 
 -- no more than it has numbers
-unfoldable pub Few : Reading → Type 0
-Few (Dates n) = n ≤ max_dates
-Few NoCalendar = Unit {0}
+unfoldable pub Few : Option Dates → Type 0
+Few (Some dates) = dates.count ≤ max_dates
+Few None = Unit {0}
 
-pub record ReadAs (answer : CalendarRead) (calendar : Calendar) : Type 0 where
-  pub says : read_as answer.reading answer.numbers ≡ calendar
-  pub few : Few answer.reading
-  pub room : length answer.numbers ≡ max_dates
+-- room for all the dates that there may be
+unfoldable pub Room : Option Dates → Type 0
+Room (Some dates) = length dates.numbers ≡ max_dates
+Room None = Unit {0}
+
+pub record ReadAs (answer : Option Dates) (calendar : Calendar) : Type 0 where
+  pub says : read_as answer ≡ calendar
+  pub few : Few answer
+  pub room : Room answer

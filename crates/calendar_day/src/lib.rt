@@ -4,7 +4,6 @@
 ghost use Rattle.std.specs.Prelude.{◌≡◌};
 ghost use Rattle.calendar.specs.Days.{same_date, date_of, dates_of, day_of};
 
-use calendar::types::Day;
 use contract::types::Date;
 
 // Whether the number YYMMDD is that of a date: whatever the date's own numbers are, day, month and year are compared one by one.
@@ -21,16 +20,14 @@ fn is_date(number: u64, date: Date) -> bool
 }
 
 // The day of a date: its place in the calendar, from 0 on; or none.
-pub fn day_of(calendar: &[u64], date: Date) -> Day
+pub fn day_of(calendar: &[u64], date: Date) -> Option<u64>
     ensures { result ≡ day_of (dates_of calendar.now) date }
 {
-    let mut i = 0;
-    while i < calendar.len() {
+    for i in 0..calendar.len() {
         let found = is_date(calendar[i], date);
         if found {
-            return Day::On(i as u64);
+            return Some(i as u64);
         }
-        i += 1;
     }
-    Day::NoDay
+    None
 }

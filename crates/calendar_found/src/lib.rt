@@ -7,7 +7,7 @@ ghost use Rattle.calendar.specs.Text.{ReadAs};
 ghost use Rattle.calendar.specs.File.{opened_by, file_of, InBuffer, calendar_by};
 
 use calendar::bounds::MAX_DATES;
-use calendar::types::{CalendarRead, Contents, Opened, Reading};
+use calendar::types::{Dates, Opened};
 
 // What an attempt to open it tells: that it was opened; or else whether a link has its name, and whether it failed for want of such a file.
 pub fn opened(readable: bool, link: bool, missing: bool) -> Opened
@@ -25,23 +25,23 @@ pub fn opened(readable: bool, link: bool, missing: bool) -> Opened
     Opened::Unreadable
 }
 
-// A calendar without dates, or none.
-pub fn without_dates(reading: Reading) -> CalendarRead
-    ensures { result ≡ record { numbers = replicate max_dates 0; reading = reading } }
+// A calendar without dates.
+pub fn without_dates() -> Dates
+    ensures { result ≡ record { numbers = replicate max_dates 0; count = 0 } }
 {
-    CalendarRead {
+    Dates {
         numbers: [0; MAX_DATES],
-        reading,
+        count: 0,
     }
 }
 
-// The calendar that was read into a buffer.
-pub fn of_contents(found: Contents, buf: &[u8]) -> CalendarRead
+// The calendar that was read into a buffer: how many bytes of the file stand at its front, or that a read failed.
+pub fn of_contents(found: Option<usize>, buf: &[u8]) -> Option<Dates>
     requires { InBuffer (length buf.now) found }
     ensures { ReadAs result (calendar_by (file_of found buf.now)) }
 {
-    let Contents::Bytes(n) = found else {
-        return without_dates(Reading::NoCalendar);
+    let Some(n) = found else {
+        return None;
     };
     calendar_reader::read(&buf[..n])
 }

@@ -7,37 +7,36 @@ ghost use Rattle.calendar.specs.Days.{number_of};
 ghost use Rattle.calendar.specs.Text.{line_end, line_at, calendar_of, ReadAs};
 
 use calendar::bounds::MAX_DATES;
-use calendar::types::{CalendarRead, Reading};
-use contract::types::{Date, DateRead, Verdict};
-use decimal::Scanned;
+use calendar::types::Dates;
+use contract::types::Date;
 
 // The end of a line: CRLF, or the end of the bytes.
-fn line_end(text: &[u8], at: usize) -> Scanned
+fn line_end(text: &[u8], at: usize) -> Option<usize>
     ensures { result ≡ line_end text.now at }
 {
     if at == text.len() {
-        return Scanned::Next(at);
+        return Some(at);
     }
-    let Scanned::Next(next) = scan::expect(text, at, b'\r') else {
-        return Scanned::Broken;
+    let Some(next) = scan::expect(text, at, b'\r') else {
+        return None;
     };
     scan::expect(text, next, b'\n')
 }
 
 // A line: a date that there is, and the line's end.
-fn line(text: &[u8], at: usize) -> DateRead
+fn line(text: &[u8], at: usize) -> Option<(Date, usize)>
     ensures { result ≡ line_at text.now at }
 {
-    let DateRead::Dated { date, next } = date::digits(text, at) else {
-        return DateRead::Undated;
+    let Some((date, next)) = date::digits(text, at) else {
+        return None;
     };
-    let Verdict::Accepted = date::verdict(date) else {
-        return DateRead::Undated;
+    let Ok(()) = date::verdict(date) else {
+        return None;
     };
-    let Scanned::Next(end) = line_end(text, next) else {
-        return DateRead::Undated;
+    let Some(end) = line_end(text, next) else {
+        return None;
     };
-    DateRead::Dated { date, next: end }
+    Some((date, end))
 }
 
 // The number YYMMDD of a date.
@@ -49,40 +48,28 @@ fn number_of(date: Date) -> u64
 }
 
 // Reads a calendar, whatever the bytes are.
-pub fn read(text: &[u8]) -> CalendarRead
+pub fn read(text: &[u8]) -> Option<Dates>
     ensures { ReadAs result (calendar_of text.now) }
 {
     let mut numbers = [0; MAX_DATES];
-    let mut n = 0;
+    let mut count = 0;
     let mut before = 0;
     let mut at = 0;
     while at < text.len() {
-        if n == MAX_DATES {
-            return CalendarRead {
-                numbers,
-                reading: Reading::NoCalendar,
-            };
+        if count == MAX_DATES {
+            return None;
         }
-        let DateRead::Dated { date, next } = line(text, at) else {
-            return CalendarRead {
-                numbers,
-                reading: Reading::NoCalendar,
-            };
+        let Some((date, next)) = line(text, at) else {
+            return None;
         };
         let number = number_of(date);
         if number <= before {
-            return CalendarRead {
-                numbers,
-                reading: Reading::NoCalendar,
-            };
+            return None;
         }
-        numbers[n] = number;
-        n += 1;
+        numbers[count] = number;
+        count += 1;
         before = number;
         at = next;
     }
-    CalendarRead {
-        numbers,
-        reading: Reading::Dates(n),
-    }
+    Some(Dates { numbers, count })
 }

@@ -3,64 +3,47 @@ ghost use Rattle.std.specs.Prelude.{◌≡◌, ◌+◌, ◌≤◌, length};
 ghost use Rattle.decimal.specs.Put.{Put};
 ghost use Rattle.contract.specs.Kind.{type_byte, category_byte, type_at, category_at, kind_at, kind_text};
 
-use contract::types::{CategoryRead, KindRead, TypeRead};
 use terms::{Category, OptionType};
 
-fn option_type(s: &[u8], at: usize) -> TypeRead
+fn option_type(s: &[u8], at: usize) -> Option<(OptionType, usize)>
     ensures { result ≡ type_at s.now at }
 {
     if s.len() <= at {
-        return TypeRead::NoType;
+        return None;
     }
     let b = s[at];
     match b {
-        b'C' => TypeRead::Typed {
-            option: OptionType::Call,
-            next: at + 1,
-        },
-        b'P' => TypeRead::Typed {
-            option: OptionType::Put,
-            next: at + 1,
-        },
-        _ => TypeRead::NoType,
+        b'C' => Some((OptionType::Call, at + 1)),
+        b'P' => Some((OptionType::Put, at + 1)),
+        _ => None,
     }
 }
 
-fn category(s: &[u8], at: usize) -> CategoryRead
+fn category(s: &[u8], at: usize) -> Option<(Category, usize)>
     ensures { result ≡ category_at s.now at }
 {
     if s.len() <= at {
-        return CategoryRead::NoCategory;
+        return None;
     }
     let b = s[at];
     match b {
-        b'A' => CategoryRead::Categorised {
-            category: Category::American,
-            next: at + 1,
-        },
-        b'E' => CategoryRead::Categorised {
-            category: Category::European,
-            next: at + 1,
-        },
-        _ => CategoryRead::NoCategory,
+        b'A' => Some((Category::American, at + 1)),
+        b'E' => Some((Category::European, at + 1)),
+        _ => None,
     }
 }
 
 // The two letters.
-pub fn letters(s: &[u8], at: usize) -> KindRead
+pub fn letters(s: &[u8], at: usize) -> Option<(OptionType, Category, usize)>
     ensures { result ≡ kind_at s.now at }
 {
-    let TypeRead::Typed { option, next: b } = option_type(s, at) else {
-        return KindRead::NoKind;
+    let Some((option, b)) = option_type(s, at) else {
+        return None;
     };
-    let CategoryRead::Categorised { category, next } = category(s, b) else {
-        return KindRead::NoKind;
+    let Some((category, next)) = category(s, b) else {
+        return None;
     };
-    KindRead::Kinded {
-        option,
-        category,
-        next,
-    }
+    Some((option, category, next))
 }
 
 fn type_letter(option: OptionType) -> u8

@@ -7,37 +7,31 @@ ghost use Rattle.contract.specs.Bounds.{date_length};
 ghost use Rattle.contract.specs.Code.{code_text, layout_at};
 ghost use Rattle.contract.specs.Date.{TwoDigitsEach, date_text};
 
-use contract::types::{Date, DateRead, KindRead, LayoutRead, StrikeRead, StyleRead, Terms};
-use decimal::Scanned;
+use contract::types::{Code, Date, Terms};
 
 // The fields of a code, whatever date and strike they say.
-pub fn fields(s: &[u8]) -> LayoutRead
+pub fn fields(s: &[u8]) -> Option<Code>
     ensures { result ≡ layout_at s.now }
 {
-    let Scanned::Next(future) = code_fields::future::leading(s) else {
-        return LayoutRead::NoLayout;
+    let Some(future) = code_fields::future::leading(s) else {
+        return None;
     };
-    let Scanned::Next(a) = scan::expect(s, future, b'M') else {
-        return LayoutRead::NoLayout;
+    let Some(a) = scan::expect(s, future, b'M') else {
+        return None;
     };
-    let DateRead::Dated { date, next: b } = date::digits(s, a) else {
-        return LayoutRead::NoLayout;
+    let Some((date, b)) = date::digits(s, a) else {
+        return None;
     };
-    let KindRead::Kinded {
-        option,
-        category,
-        next: c,
-    } = code_fields::kind::letters(s, b)
-    else {
-        return LayoutRead::NoLayout;
+    let Some((option, category, c)) = code_fields::kind::letters(s, b) else {
+        return None;
     };
-    let StyleRead::Styled { style, next: d } = style::blank(s, c) else {
-        return LayoutRead::NoLayout;
+    let Some((style, d)) = style::blank(s, c) else {
+        return None;
     };
-    let StrikeRead::Strike(strike) = strike::last(s, d) else {
-        return LayoutRead::NoLayout;
+    let Some(strike) = strike::last(s, d) else {
+        return None;
     };
-    LayoutRead::Laid {
+    Some(Code {
         future,
         terms: Terms {
             date,
@@ -46,7 +40,7 @@ pub fn fields(s: &[u8]) -> LayoutRead
             style,
             strike,
         },
-    }
+    })
 }
 
 // The futures code, M and the date, at the start of a buffer.
@@ -64,12 +58,8 @@ pub fn put_code(out: &mut [u8], future: &[u8], terms: Terms) -> usize
     requires { (length (code_text future.now terms) ≤ length out.old) × TwoDigitsEach terms.date }
     ensures { Put out.old 0 (code_text future.now terms) out.new result }
 {
-    let date = terms.date;
-    let option = terms.option;
-    let category = terms.category;
-    let style = terms.style;
-    let b = put_head(out, future, date);
-    let c = code_fields::kind::put_letters(out, b, option, category);
-    let d = style::put_blank(out, c, style);
+    let b = put_head(out, future, terms.date);
+    let c = code_fields::kind::put_letters(out, b, terms.option, terms.category);
+    let d = style::put_blank(out, c, terms.style);
     strike::put_text(out, d, terms.strike)
 }

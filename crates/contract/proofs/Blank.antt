@@ -7,6 +7,7 @@ use native.Mathlib.Nat.{add-zero}
 use native.Mathlib.Omega.{arith}
 use lib.ListN.{length, drop, take, get_or}
 use lib.Seq.{drop_at, take_at, get_or-drop, length-take-le}
+use Rattle.std.specs.Prelude.{Ok, Result}
 use Rattle.terms.specs.Refusals as no
 use Rattle.decimal.proofs.Each.{each_at}
 use Rattle.contract.specs.Future.{FutureCode}
@@ -17,14 +18,17 @@ use Rattle.contract.specs.Promises.{answer, CodeOfTerms, in_style, behind_catego
 use Rattle.contract.specs.declared.types.Style.{Style}
 use Rattle.contract.specs.declared.types.Style.TheVariants.{Blank, NoBlank}
 use Rattle.contract.specs.declared.types.Terms.{Terms}
-use Rattle.contract.specs.declared.types.Read.TheVariants.{Code}
 use Rattle.contract.proofs.Bytes.{head, code_split, head_behind, blank_place, behind_blank, ByteOfCode, code_bytes}
 use Rattle.contract.proofs.Promises.{reader_refuses_layout, reader_accepts, read_is, future_is}
+use Rattle.decimal.proofs.Choices.{same_ok}
+use Rattle.contract.specs.Code.{coded}
+use Rattle.contract.specs.declared.types.Code.{Code}
+use Rattle.contract.specs.declared.types.Refusal.{Refusal}
 
 -- ---- both styles are read
 pub read_in_both_styles : (s f : List ℕ) (t : Terms) (z : Style) →
     CodeOfTerms s f t →
-    (read_code (code_text f (in_style z t)) ≡ Code (length f) (in_style z t)) × (future_of (code_text f (in_style z t)) ≡ f)
+    (read_code (code_text f (in_style z t)) ≡ Ok (coded (length f) (in_style z t))) × (future_of (code_text f (in_style z t)) ≡ f)
 read_in_both_styles s f t z c =
     (reader_accepts (code_text f (in_style z t)) f (in_style z t)).1
     (record {
@@ -78,16 +82,16 @@ other_bytes_refused s i h other blank =
 
 -- ---- codes that differ only in the blank
 
-code_of : (s : List ℕ) (n : ℕ) (t : Terms) → read_code s ≡ Code n t → CodeOfTerms s (take n s) t
+code_of : (s : List ℕ) (n : ℕ) (t : Terms) → read_code s ≡ Ok (coded n t) → CodeOfTerms s (take n s) t
 code_of s n t e =
     let len : length (take n s) ≡ n = length-take-le n s (read_is s n t e).within in
-    (reader_accepts s (take n s) t).0 (e ∙ ap (λ (k : ℕ). Code k t) (sym len), future_is s n t e)
+    (reader_accepts s (take n s) t).0 (e ∙ ap (λ (k : ℕ). Ok (coded k t)) (sym len), future_is s n t e)
 
 -- without its blank a code is the code of the same terms in the other style
 pub blank_taken_out : (x y : List ℕ) (n : ℕ) (t : Terms) →
-    read_code (x ++ 32 ∷ y) ≡ Code n t →
+    read_code (x ++ 32 ∷ y) ≡ Ok (coded n t) →
     (t.style ≡ Blank)
-    × ((read_code (x ++ y) ≡ Code n (in_style NoBlank t)) × (future_of (x ++ y) ≡ future_of (x ++ 32 ∷ y)))
+    × ((read_code (x ++ y) ≡ Ok (coded n (in_style NoBlank t))) × (future_of (x ++ y) ≡ future_of (x ++ 32 ∷ y)))
 unfolding style_text
 blank_taken_out x y n t e =
     let s = x ++ 32 ∷ y in
@@ -120,21 +124,21 @@ blank_taken_out x y n t e =
     let other = read_in_both_styles s f t NoBlank c in (
       place.0,
       (
-        ap read_code text ∙ other.0 ∙ ap (λ (k : ℕ). Code k (in_style NoBlank t)) len,
+        ap read_code text ∙ other.0 ∙ ap (λ (k : ℕ). Ok (coded k (in_style NoBlank t))) len,
         ap future_of text ∙ other.1 ∙ sym (future_is s n t e),
       ),
     )
 
 -- they have unlike terms
 pub unlike_terms : (x y : List ℕ) (n m : ℕ) (t u : Terms) →
-    read_code (x ++ 32 ∷ y) ≡ Code n t →
-    read_code (x ++ y) ≡ Code m u →
+    read_code (x ++ 32 ∷ y) ≡ Ok (coded n t) →
+    read_code (x ++ y) ≡ Ok (coded m u) →
     t ≡ u →
     ⊥
 unlike_terms x y n m t u p q e =
     let out = blank_taken_out x y n t p in
-    let same : Code n (in_style NoBlank t) ≡ Code m u = sym out.1.0 ∙ q in
-    let alike : in_style NoBlank t ≡ u = cc in
+    let same : ◌≡◌ {A = Result Code Refusal} (Ok (coded n (in_style NoBlank t))) (Ok (coded m u)) = sym out.1.0 ∙ q in
+    let alike : in_style NoBlank t ≡ u = ap (λ (c : Code). c.terms) (same_ok _ _ same) in
     let both : Blank ≡ NoBlank = sym out.0 ∙ ap (λ (z : Terms). z.style) (e ∙ sym alike) in
     let z : ◌≡◌ {A = ℕ} 0 1 = cc in
     omega arith

@@ -10,58 +10,49 @@ use lib.Dec.{leb, eqb}
 use mir.Val.{Fits}
 use mir.Syntax.{w64}
 use borrow.Author.Tests.{le-leb, eq-eqb, ne_eqb, leb-true, eqb-true, eqb-false}
+use Rattle.std.proofs.lemmas.Option.{none-some}
+use Rattle.std.specs.Prelude.{Option, Some, None}
 use Rattle.choice.specs.Choice.{choose}
 use Rattle.terms.specs.Bounds.{max_strike}
 use Rattle.decimal.specs.Text.{digit_byte, decimal}
 use Rattle.decimal.specs.Read.{digit_of, numeral_on, numeral_at, capped, on_numeral}
 use Rattle.decimal.specs.Put.{Put}
-use Rattle.decimal.specs.declared.Numeral.{Numeral}
-use Rattle.decimal.specs.declared.Numeral.TheVariants.{Value, NoNumeral}
 use Rattle.decimal.proofs.Choices.{held, failed}
 use Rattle.decimal.proofs.Places.{drop_next, here_in, here_byte, here_next, after_text, ends}
 use Rattle.decimal.proofs.Digits.{digit_of_lem, digit_byte_lem, digit_in}
 use Rattle.decimal.proofs.Reading.{capped_value, capped_none, capped_most}
-use Rattle.decimal.proofs.Numerals.{NoDigit, end_no_digit, byte_no_digit, none_value, after_numeral, numeral_read, numeral_text, length_some, length_below}
+use Rattle.decimal.proofs.Numerals.{NoDigit, end_no_digit, byte_no_digit, after_numeral, numeral_read, numeral_text, length_some, length_below}
 use Rattle.decimal.proofs.Putting.{then}
 use Rattle.decimal.specs.Scan.{on_scanned, byte_at}
-use Rattle.decimal.specs.declared.Scanned.{Scanned}
-use Rattle.decimal.specs.declared.Scanned.TheVariants.{Next, Broken}
 use Rattle.contract.specs.Strike.{hundredths_text, strike_text, fraction_at, hundredths_at, on_hundredths, counted, strike_at, on_strike}
-use Rattle.contract.specs.declared.types.HundredthsRead.{HundredthsRead}
-use Rattle.contract.specs.declared.types.HundredthsRead.TheVariants.{Hundredths, NoHundredths}
-use Rattle.contract.specs.declared.types.StrikeRead.{StrikeRead}
-use Rattle.contract.specs.declared.types.StrikeRead.TheVariants.{Strike, NoStrike}
 use Rattle.contract.specs.Bounds.{too_many_units, max_strike_text}
 use Rattle.contract.proofs.Scanning.{after_scanned, byte_read, byte_text}
 
 -- ---- what follows the strike, by what its reader answered
-module _ {A : Type 0} (x : A) (k : ℕ → A) (r m : StrikeRead) where
-  pub struck : (y : A) (h : ℕ) → r ≡ m → r ≡ Strike h → y ≡ k h → y ≡ on_strike m x k
+module _ {A : Type 0} (x : A) (k : ℕ → A) (r m : Option ℕ) where
+  pub struck : (y : A) (h : ℕ) → r ≡ m → r ≡ Some h → y ≡ k h → y ≡ on_strike m x k
   unfolding on_strike
   struck y h p q e = rw (← p, q) e
 
-  pub unstruck : (y : A) → r ≡ m → r ≡ NoStrike → y ≡ x → y ≡ on_strike m x k
+  pub unstruck : (y : A) → r ≡ m → r ≡ None → y ≡ x → y ≡ on_strike m x k
   unfolding on_strike
   unstruck y p q e = rw (← p, q) e
 
 pub after_strike : {A R : Type 0} (x y : A) →
     (x ≡ y → ⊥) →
-    (m : StrikeRead) (k : ℕ → A) →
+    (m : Option ℕ) (k : ℕ → A) →
     on_strike m x k ≡ y →
-    ((h : ℕ) → m ≡ Strike h → k h ≡ y → R) →
+    ((h : ℕ) → m ≡ Some h → k h ≡ y → R) →
     R
 unfolding on_strike
-after_strike x y f (Strike h) k e g = g h refl e
-after_strike x y f NoStrike k e g = absurd (f e)
+after_strike x y f (Some h) k e g = g h refl e
+after_strike x y f None k e g = absurd (f e)
 
 -- ---- the digits after the point
-none_hundredths : (f : ℕ) → NoHundredths ≡ Hundredths f → ⊥
-none_hundredths f e = let z : ◌≡◌ {A = ℕ} 0 1 = cc in omega arith
-
-fraction_text : (s : List ℕ) (at f : ℕ) → fraction_at s at ≡ Hundredths f → (f < 100) × (46 ∷ drop at s ≡ hundredths_text f)
+fraction_text : (s : List ℕ) (at f : ℕ) → fraction_at s at ≡ Some f → (f < 100) × (46 ∷ drop at s ≡ hundredths_text f)
 unfolding fraction_at hundredths_text choose
 fraction_text s at f e =
-    let p = held (leb (digit_of (get_or s at 0)) 9) _ NoHundredths (Hundredths f) e (none_hundredths f) in
+    let p = held (leb (digit_of (get_or s at 0)) 9) _ None (Some f) e (none-some _) in
     by_end (leb-true _ _ p.0) (eqb (at + 1) (length s)) refl p.1
   where
     a : ℕ
@@ -77,14 +68,14 @@ fraction_text s at f e =
         (t : Bool) →
         eqb (at + 1) (length s) ≡ t →
         choose t
-        (choose (eqb a 0) NoHundredths (Hundredths (a * 10)))
+        (choose (eqb a 0) None (Some (a * 10)))
         (choose (leb b 9)
-        (choose (eqb b 0) NoHundredths (choose (eqb (at + 1 + 1) (length s)) (Hundredths (a * 10 + b)) NoHundredths))
-        NoHundredths)
-        ≡ Hundredths f →
+        (choose (eqb b 0) None (choose (eqb (at + 1 + 1) (length s)) (Some (a * 10 + b)) None))
+        None)
+        ≡ Some f →
         (f < 100) × (46 ∷ drop at s ≡ hundredths_text f)
     by_end g true q e =
-        let p = failed (eqb a 0) NoHundredths _ (Hundredths f) e (none_hundredths f) in
+        let p = failed (eqb a 0) None _ (Some f) e (none-some _) in
         let z : a * 10 ≡ f = let k = p.1 in cc in
         let nz = eqb-false a 0 p.0 in
         let d : f / 10 ≡ a = omega arith in
@@ -93,9 +84,9 @@ fraction_text s at f e =
           rw (first g, eqb-true (at + 1) (length s) q, drop-length s, ne_eqb f 0 (λ w. nz (omega arith)), d, r),
         )
     by_end g false q e =
-        let p = held (leb b 9) _ NoHundredths (Hundredths f) e (none_hundredths f) in
-        let u = failed (eqb b 0) NoHundredths _ (Hundredths f) p.1 (none_hundredths f) in
-        let r = held (eqb (at + 1 + 1) (length s)) _ NoHundredths (Hundredths f) u.1 (none_hundredths f) in
+        let p = held (leb b 9) _ None (Some f) e (none-some _) in
+        let u = failed (eqb b 0) None _ (Some f) p.1 (none-some _) in
+        let r = held (eqb (at + 1 + 1) (length s)) _ None (Some f) u.1 (none-some _) in
         let g' : b ≤ 9 = leb-true _ _ p.0 in
         let z : a * 10 + b ≡ f = let k = r.1 in cc in
         let nz = eqb-false b 0 u.0 in
@@ -119,14 +110,14 @@ fraction_read : (s : List ℕ) (at f : ℕ) →
     0 < f →
     f < 100 →
     drop at s ≡ digit_byte (f / 10) ∷ choose (eqb (f % 10) 0) [] (digit_byte (f % 10) ∷ []) →
-    fraction_at s at ≡ Hundredths f
+    fraction_at s at ≡ Some f
 unfolding fraction_at choose
 fraction_read s at f p q e = by_test (eqb (f % 10) 0) refl e
   where
     by_test : (t : Bool) →
         eqb (f % 10) 0 ≡ t →
         drop at s ≡ digit_byte (f / 10) ∷ choose t [] (digit_byte (f % 10) ∷ []) →
-        fraction_at s at ≡ Hundredths f
+        fraction_at s at ≡ Some f
     by_test true z e =
         let zero-last : f % 10 ≡ 0 = eqb-true (f % 10) 0 z in
         let a : digit_of (get_or s at 0) ≡ f / 10 = ap digit_of (here_byte s at _ _ e) ∙ digit_of_lem (f / 10) (omega arith) in
@@ -154,29 +145,29 @@ fraction_read s at f p q e = by_test (eqb (f % 10) 0) refl e
         )
 
 -- ---- what follows the units
-hundredths_text_lem : (s : List ℕ) (at f : ℕ) → hundredths_at s at ≡ Hundredths f → (f < 100) × (drop at s ≡ hundredths_text f)
+hundredths_text_lem : (s : List ℕ) (at f : ℕ) → hundredths_at s at ≡ Some f → (f < 100) × (drop at s ≡ hundredths_text f)
 unfolding hundredths_at hundredths_text choose
 hundredths_text_lem s at f e = by_end (eqb at (length s)) refl e
   where
     by_end : (t : Bool) →
         eqb at (length s) ≡ t →
-        choose t (Hundredths 0) (on_scanned (byte_at s at 46) NoHundredths (λ i. fraction_at s i)) ≡ Hundredths f →
+        choose t (Some 0) (on_scanned (byte_at s at 46) None (λ i. fraction_at s i)) ≡ Some f →
         (f < 100) × (drop at s ≡ hundredths_text f)
     by_end true g e =
         let z : 0 ≡ f = cc in
         (omega arith, rw (← z, eqb-true at (length s) g, drop-length s))
     by_end false g e =
-        after_scanned NoHundredths (Hundredths f) (none_hundredths f) (byte_at s at 46) _ e (λ i p q.
+        after_scanned None (Some f) (none-some _) (byte_at s at 46) _ e (λ i p q.
         ((fraction_text s i f q).0, byte_text s at 46 i p ∙ (fraction_text s i f q).1))
 
-hundredths_read : (s : List ℕ) (at f : ℕ) → at ≤ length s → f < 100 → drop at s ≡ hundredths_text f → hundredths_at s at ≡ Hundredths f
+hundredths_read : (s : List ℕ) (at f : ℕ) → at ≤ length s → f < 100 → drop at s ≡ hundredths_text f → hundredths_at s at ≡ Some f
 unfolding hundredths_at hundredths_text on_scanned choose
 hundredths_read s at f w h e = by_test (eqb f 0) refl e
   where
     by_test : (t : Bool) →
         eqb f 0 ≡ t →
         drop at s ≡ choose t [] (46 ∷ digit_byte (f / 10) ∷ choose (eqb (f % 10) 0) [] (digit_byte (f % 10) ∷ [])) →
-        hundredths_at s at ≡ Hundredths f
+        hundredths_at s at ≡ Some f
     by_test true z e =
         let k : at ≡ length s = omega (arith, sym (length-drop at s) ∙ ap length e) in
         rw (eq-eqb at (length s) k, eqb-true f 0 z)
@@ -191,18 +182,15 @@ units_of u f h = omega arith
 part_of : (u f : ℕ) → f < 100 → (u * 100 + f) % 100 ≡ f
 part_of u f h = omega arith
 
-none_strike : (h : ℕ) → NoStrike ≡ Strike h → ⊥
-none_strike h e = let z : ◌≡◌ {A = ℕ} 0 1 = cc in omega arith
-
-after_hundredths : {R : Type 0} (y : StrikeRead) →
-    (NoStrike ≡ y → ⊥) →
-    (m : HundredthsRead) (k : ℕ → StrikeRead) →
-    on_hundredths m NoStrike k ≡ y →
-    ((f : ℕ) → m ≡ Hundredths f → k f ≡ y → R) →
+after_hundredths : {R : Type 0} (y : Option ℕ) →
+    (None ≡ y → ⊥) →
+    (m : Option ℕ) (k : ℕ → Option ℕ) →
+    on_hundredths m None k ≡ y →
+    ((f : ℕ) → m ≡ Some f → k f ≡ y → R) →
     R
 unfolding on_hundredths
-after_hundredths y f (Hundredths p) k e g = g p refl e
-after_hundredths y f NoHundredths k e g = absurd (f e)
+after_hundredths y f (Some p) k e g = g p refl e
+after_hundredths y f None k e g = absurd (f e)
 
 -- a strike that was read is that of its text, as the reader counts it
 pub record Struck (s : List ℕ) (at h : ℕ) : Type 0 where
@@ -210,11 +198,11 @@ pub record Struck (s : List ℕ) (at h : ℕ) : Type 0 where
   pub count : h ≡ counted strike
   pub text : drop at s ≡ strike_text strike
 
-pub strike_text_lem : (s : List ℕ) (at h : ℕ) → strike_at s at ≡ Strike h → Struck s at h
+pub strike_text_lem : (s : List ℕ) (at h : ℕ) → strike_at s at ≡ Some h → Struck s at h
 unfolding strike_at
 strike_text_lem s at h e =
-    after_numeral NoStrike (Strike h) (none_strike h) (numeral_at s at) _ e (λ u i p q.
-    after_hundredths (Strike h) (none_strike h) (hundredths_at s i) _ q (λ f a b.
+    after_numeral None (Some h) (none-some _) (numeral_at s at) _ e (λ u i p q.
+    after_hundredths (Some h) (none-some _) (hundredths_at s i) _ q (λ f a b.
     let t = hundredths_text_lem s i f a in
     let z : counted (u * 100 + f) ≡ h = cc in
     record {
@@ -231,7 +219,7 @@ hundredths_no_digit f = by_test (eqb f 0)
     by_test true = end_no_digit
     by_test false = byte_no_digit 46 _ (omega arith)
 
-pub strike_read : (s : List ℕ) (at strike : ℕ) → drop at s ≡ strike_text strike → strike_at s at ≡ Strike (counted strike)
+pub strike_read : (s : List ℕ) (at strike : ℕ) → drop at s ≡ strike_text strike → strike_at s at ≡ Some (counted strike)
 unfolding strike_at on_numeral on_hundredths
 strike_read s at strike e =
     let u = strike / 100 in
@@ -246,60 +234,60 @@ strike_read s at strike e =
     )
 
 -- no strike begins with a blank, 32
-pub strike_no_blank : (s : List ℕ) (at strike : ℕ) → drop at s ≡ strike_text strike → byte_at s at 32 ≡ Broken
+pub strike_no_blank : (s : List ℕ) (at strike : ℕ) → drop at s ≡ strike_text strike → byte_at s at 32 ≡ None
 unfolding numeral_on digit_of choose
 strike_no_blank s at strike e = by_byte (byte_at s at 32) refl
   where
-    by_byte : (m : Scanned) → byte_at s at 32 ≡ m → m ≡ Broken
-    by_byte Broken p = refl
-    by_byte (Next n) p =
-        let none : numeral_at s at ≡ NoNumeral = ap (numeral_on at) (byte_text s at 32 n p) in
+    by_byte : (m : Option ℕ) → byte_at s at 32 ≡ m → m ≡ None
+    by_byte None p = refl
+    by_byte (Some n) p =
+        let none : numeral_at s at ≡ None = ap (numeral_on at) (byte_text s at 32 n p) in
         let some = numeral_read s at (strike / 100) (hundredths_text (strike % 100)) (hundredths_no_digit (strike % 100)) e in
-        absurd (none_value _ _ (sym none ∙ some))
+        absurd (none-some _ (sym none ∙ some))
 
 -- ---- steps of the reader, which reads the units up to the least that no strike has
-module _ (s : List ℕ) (at : ℕ) (r : Numeral) (p : r ≡ capped too_many_units (numeral_at s at)) where
-  pub strike_none : r ≡ NoNumeral → NoStrike ≡ strike_at s at
+module _ (s : List ℕ) (at : ℕ) (r : Option (ℕ × ℕ)) (p : r ≡ capped too_many_units (numeral_at s at)) where
+  pub strike_none : r ≡ None → None ≡ strike_at s at
   unfolding strike_at
-  strike_none q = capped_none NoStrike _ too_many_units r (numeral_at s at) p NoStrike q refl
+  strike_none q = capped_none None _ too_many_units r (numeral_at s at) p None q refl
 
-  pub units_room : (u i : ℕ) → r ≡ Value u i → Fits w64 (u * 100)
-  units_room u i q = omega (arith, capped_most NoStrike (λ v n. NoStrike) too_many_units r (numeral_at s at) p u i q)
+  pub units_room : (u i : ℕ) → r ≡ Some (u, i) → Fits w64 (u * 100)
+  units_room u i q = omega (arith, capped_most {A = ℕ} 0 (λ v n. 0) too_many_units r (numeral_at s at) p u i q)
 
-  module _ (u i : ℕ) (q : r ≡ Value u i) (m : HundredthsRead) (a : m ≡ hundredths_at s i) where
-    strike_by : (y : StrikeRead) →
-        y ≡ on_hundredths (hundredths_at s i) NoStrike (λ f. Strike (counted (u * 100 + f))) →
+  module _ (u i : ℕ) (q : r ≡ Some (u, i)) (m : Option ℕ) (a : m ≡ hundredths_at s i) where
+    strike_by : (y : Option ℕ) →
+        y ≡ on_hundredths (hundredths_at s i) None (λ f. Some (counted (u * 100 + f))) →
         y ≡ strike_at s at
     unfolding strike_at on_hundredths
-    strike_by y e = capped_value NoStrike _ too_many_units r (numeral_at s at) p y u i q e (λ w. same w (hundredths_at s i) refl)
+    strike_by y e = capped_value None _ too_many_units r (numeral_at s at) p y u i q e (λ w. same w (hundredths_at s i) refl)
       where
-        same : (w : ℕ) (x : HundredthsRead) →
+        same : (w : ℕ) (x : Option ℕ) →
             hundredths_at s i ≡ x →
-            on_hundredths x NoStrike (λ f. Strike (counted (min w too_many_units * 100 + f)))
-            ≡ on_hundredths x NoStrike (λ f. Strike (counted (w * 100 + f)))
-        same w (Hundredths f) g =
+            on_hundredths x None (λ f. Some (counted (min w too_many_units * 100 + f)))
+            ≡ on_hundredths x None (λ f. Some (counted (w * 100 + f)))
+        same w (Some f) g =
             let below : f < 100 = (hundredths_text_lem s i f g).0 in
             let z : counted (min w too_many_units * 100 + f) ≡ counted (w * 100 + f) = omega arith in
-            ap Strike z
-        same w NoHundredths g = refl
+            ap Some z
+        same w None g = refl
 
-    pub strike_broken : m ≡ NoHundredths → NoStrike ≡ strike_at s at
+    pub strike_broken : m ≡ None → None ≡ strike_at s at
     unfolding on_hundredths
-    strike_broken b = strike_by NoStrike (rw (← a, b))
+    strike_broken b = strike_by None (rw (← a, b))
 
-    module _ (f : ℕ) (b : m ≡ Hundredths f) where
-      pub strike_found : Strike (u * 100 + f) ≡ strike_at s at
+    module _ (f : ℕ) (b : m ≡ Some f) where
+      pub strike_found : Some (u * 100 + f) ≡ strike_at s at
       unfolding on_hundredths
       strike_found =
           let below : f < 100 = (hundredths_text_lem s i f (sym a ∙ b)).0 in
-          let most : u ≤ too_many_units = capped_most NoStrike (λ v n. NoStrike) too_many_units r (numeral_at s at) p u i q in
+          let most : u ≤ too_many_units = capped_most {A = ℕ} 0 (λ v n. 0) too_many_units r (numeral_at s at) p u i q in
           let z : u * 100 + f ≡ counted (u * 100 + f) = omega arith in
-          strike_by (Strike (u * 100 + f)) (rw (← a, b) (ap Strike z))
+          strike_by (Some (u * 100 + f)) (rw (← a, b) (ap Some z))
 
       pub strike_room : Fits w64 (u * 100 + f)
       strike_room =
           let below : f < 100 = (hundredths_text_lem s i f (sym a ∙ b)).0 in
-          omega (arith, capped_most NoStrike (λ v n. NoStrike) too_many_units r (numeral_at s at) p u i q)
+          omega (arith, capped_most {A = ℕ} 0 (λ v n. 0) too_many_units r (numeral_at s at) p u i q)
 
 -- ---- steps of the writer: no hundredths, one digit of them, two digits
 pub put_none : (l : List ℕ) (at f : ℕ) → f ≡ 0 → Put l at (hundredths_text f) l at

@@ -7,34 +7,22 @@ ghost use Rattle.contract.specs.Bounds.{date_length};
 ghost use Rattle.contract.specs.Date.{leap_year, days_in, is_date, date_verdict, TwoDigitsEach, date_text, date_at};
 
 use contract::bounds::MONTHS;
-use contract::types::{Date, DateRead, Refusal, Verdict};
-use decimal::Numeral;
+use contract::types::{Date, Refusal, Verdict};
 
 // Any two digits each: whether there is such a date is asked once the layout of the whole code is known.
-pub fn digits(s: &[u8], at: usize) -> DateRead
+pub fn digits(s: &[u8], at: usize) -> Option<(Date, usize)>
     ensures { result ≡ date_at s.now at }
 {
-    let Numeral::Value {
-        value: day,
-        next: b,
-    } = scan::two_digits(s, at)
-    else {
-        return DateRead::Undated;
+    let Some((day, b)) = scan::two_digits(s, at) else {
+        return None;
     };
-    let Numeral::Value {
-        value: month,
-        next: c,
-    } = scan::two_digits(s, b)
-    else {
-        return DateRead::Undated;
+    let Some((month, c)) = scan::two_digits(s, b) else {
+        return None;
     };
-    let Numeral::Value { value: year, next } = scan::two_digits(s, c) else {
-        return DateRead::Undated;
+    let Some((year, next)) = scan::two_digits(s, c) else {
+        return None;
     };
-    DateRead::Dated {
-        date: Date { day, month, year },
-        next,
-    }
+    Some((Date { day, month, year }, next))
 }
 
 // Whether 2000 and so many years is a leap year; 2000 itself is a multiple of 400.
@@ -82,9 +70,9 @@ pub fn verdict(date: Date) -> Verdict
 {
     let dated = in_calendar(date);
     if dated {
-        return Verdict::Accepted;
+        return Ok(());
     }
-    Verdict::Refused(Refusal::NoDate)
+    Err(Refusal::NoDate)
 }
 
 pub fn put_digits(out: &mut [u8], at: usize, date: Date) -> usize

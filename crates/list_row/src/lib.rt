@@ -6,24 +6,20 @@ ghost use Rattle.calendar.specs.Days.{dates_of};
 ghost use Rattle.rows.specs.Row.{list_event, listing, dated_listing, list_row};
 
 use book::state::Event;
-use calendar::types::Day;
-use contract::types::{Read, Terms};
-use decimal::Numeral;
-use rows::types::{End, Refusal, Row};
+use contract::types::Terms;
+use rows::types::{Refusal, Row};
 use series::event::NewSeries;
 
 // The event of a listing by the terms of its code.
-fn list_event(terms: Terms, tick: u64, last: u64) -> Event
-    ensures { result ≡ list_event terms tick last }
+fn list_event(terms: Terms, tick: u64, last_day: u64) -> Event
+    ensures { result ≡ list_event terms tick last_day }
 {
-    let option = terms.option;
-    let category = terms.category;
     Event::List(NewSeries {
-        option,
-        category,
+        option: terms.option,
+        category: terms.category,
         strike: terms.strike,
         tick,
-        last_day: last,
+        last_day,
     })
 }
 
@@ -32,8 +28,8 @@ fn listing(code: &[u8], tick: u64, last: u64) -> Row
     ensures { result ≡ listing code.now tick last }
 {
     match code::read(code) {
-        Read::NoCode(refusal) => Row::Refused(Refusal::Code(refusal)),
-        Read::Code { future: _, terms } => Row::Accepted(list_event(terms, tick, last)),
+        Err(refusal) => Err(Refusal::Code(refusal)),
+        Ok(said) => Ok(list_event(said.terms, tick, last)),
     }
 }
 
@@ -42,13 +38,12 @@ fn dated_listing(calendar: &[u64], code: &[u8], tick: u64) -> Row
     ensures { result ≡ dated_listing (dates_of calendar.now) code.now tick }
 {
     match code::read(code) {
-        Read::NoCode(why) => Row::Refused(Refusal::Code(why)),
-        Read::Code { future: _, terms } => {
-            let date = terms.date;
-            let Day::On(last) = calendar_day::day_of(calendar, date) else {
-                return Row::Refused(Refusal::NoTradingDate);
+        Err(why) => Err(Refusal::Code(why)),
+        Ok(said) => {
+            let Some(last) = calendar_day::day_of(calendar, said.terms.date) else {
+                return Err(Refusal::NoTradingDate);
             };
-            Row::Accepted(list_event(terms, tick, last))
+            Ok(list_event(said.terms, tick, last))
         }
     }
 }
@@ -57,28 +52,20 @@ fn dated_listing(calendar: &[u64], code: &[u8], tick: u64) -> Row
 pub fn list(calendar: &[u64], s: &[u8]) -> Row
     ensures { result ≡ list_row (dates_of calendar.now) s.now }
 {
-    let End::At(a) = row_fields::code_end(s, 1) else {
-        return Row::Refused(Refusal::Row);
+    let Some(a) = row_fields::code_end(s, 1) else {
+        return Err(Refusal::Row);
     };
-    let Numeral::Value {
-        value: tick,
-        next: b,
-    } = row_fields::number(s, a)
-    else {
-        return Row::Refused(Refusal::Row);
+    let Some((tick, b)) = row_fields::number(s, a) else {
+        return Err(Refusal::Row);
     };
     if b == s.len() {
         return dated_listing(calendar, &s[2..a], tick);
     }
-    let Numeral::Value {
-        value: last,
-        next: c,
-    } = row_fields::number(s, b)
-    else {
-        return Row::Refused(Refusal::Row);
+    let Some((last, c)) = row_fields::number(s, b) else {
+        return Err(Refusal::Row);
     };
     if c != s.len() {
-        return Row::Refused(Refusal::Row);
+        return Err(Refusal::Row);
     }
     listing(&s[2..a], tick, last)
 }

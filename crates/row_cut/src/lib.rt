@@ -4,8 +4,6 @@
 ghost use Rattle.std.specs.Prelude.{◌≡◌, ◌<◌, length, drop};
 ghost use Rattle.rows.specs.Cut.{starts_crlf, end_from, kept_from, moved_down};
 
-use rows::types::End;
-
 // How many bytes of an unfinished row are kept: with them a row that is too long stays so, whether or not the last is the CR of its
 // CRLF.
 const KEPT: usize = 258;
@@ -24,18 +22,16 @@ fn crlf(s: &[u8], i: usize) -> bool
 }
 
 // The first CRLF from a place on.
-pub fn row_end(s: &[u8], from: usize) -> End
+pub fn row_end(s: &[u8], from: usize) -> Option<usize>
     ensures { result ≡ end_from s.now from }
 {
-    let mut i = from;
-    while i < s.len() {
+    for i in from..s.len() {
         let ends = crlf(s, i);
         if ends {
-            return End::At(i);
+            return Some(i);
         }
-        i += 1;
     }
-    End::NoEnd
+    None
 }
 
 // Of an unfinished row that starts at a place and goes to the end of the input so far: where what is kept of it starts.
@@ -53,13 +49,9 @@ pub fn kept_from(from: usize, end: usize) -> usize
 pub fn move_down(buf: &mut [u8], from: usize) -> usize
     ensures { (result ≡ length (drop from buf.old)) × (buf.new ≡ moved_down from buf.old) }
 {
-    let mut i = 0;
-    let mut j = from;
-    while j < buf.len() {
-        let b = buf[j];
-        buf[i] = b;
-        i += 1;
-        j += 1;
+    let count = buf.len().saturating_sub(from);
+    if from < buf.len() {
+        buf.copy_within(from.., 0);
     }
-    i
+    count
 }

@@ -3,8 +3,7 @@ ghost use Rattle.std.specs.Prelude.{◌≡◌};
 ghost use Rattle.rows.specs.Row.{at_end, trade_row, exercise_row, decline_row, mark_row, intraday_row, evening_row};
 
 use book::state::Event;
-use decimal::Numeral;
-use rows::types::{ByteRead, Refusal, Row, SectionsRead};
+use rows::types::{Refusal, Row};
 use series::event::{Deal, Quote, Request, Waiver};
 
 // An event whose row has to end at a place.
@@ -12,57 +11,32 @@ fn at_end(s: &[u8], at: usize, event: Event) -> Row
     ensures { result ≡ at_end s.now at event }
 {
     if at == s.len() {
-        return Row::Accepted(event);
+        return Ok(event);
     }
-    Row::Refused(Refusal::Row)
+    Err(Refusal::Row)
 }
 
 // T,series,buyer,seller,quantity,price, and both sections or neither
 pub fn trade(s: &[u8]) -> Row
     ensures { result ≡ trade_row s.now }
 {
-    let ByteRead::Byte {
-        value: series,
-        next: a,
-    } = row_fields::byte(s, 1)
-    else {
-        return Row::Refused(Refusal::Row);
+    let Some((series, a)) = row_fields::byte(s, 1) else {
+        return Err(Refusal::Row);
     };
-    let ByteRead::Byte {
-        value: buyer,
-        next: b,
-    } = row_fields::byte(s, a)
-    else {
-        return Row::Refused(Refusal::Row);
+    let Some((buyer, b)) = row_fields::byte(s, a) else {
+        return Err(Refusal::Row);
     };
-    let ByteRead::Byte {
-        value: seller,
-        next: c,
-    } = row_fields::byte(s, b)
-    else {
-        return Row::Refused(Refusal::Row);
+    let Some((seller, c)) = row_fields::byte(s, b) else {
+        return Err(Refusal::Row);
     };
-    let Numeral::Value {
-        value: quantity,
-        next: d,
-    } = row_fields::number(s, c)
-    else {
-        return Row::Refused(Refusal::Row);
+    let Some((quantity, d)) = row_fields::number(s, c) else {
+        return Err(Refusal::Row);
     };
-    let Numeral::Value {
-        value: price,
-        next: e,
-    } = row_fields::number(s, d)
-    else {
-        return Row::Refused(Refusal::Row);
+    let Some((price, e)) = row_fields::number(s, d) else {
+        return Err(Refusal::Row);
     };
-    let SectionsRead::Sections {
-        buyer: buyer_section,
-        seller: seller_section,
-        next: f,
-    } = row_fields::sections(s, e)
-    else {
-        return Row::Refused(Refusal::Row);
+    let Some((buyer_section, seller_section, f)) = row_fields::sections(s, e) else {
+        return Err(Refusal::Row);
     };
     at_end(
         s,
@@ -83,33 +57,17 @@ pub fn trade(s: &[u8]) -> Row
 pub fn exercise(s: &[u8]) -> Row
     ensures { result ≡ exercise_row s.now }
 {
-    let ByteRead::Byte {
-        value: series,
-        next: a,
-    } = row_fields::byte(s, 1)
-    else {
-        return Row::Refused(Refusal::Row);
+    let Some((series, a)) = row_fields::byte(s, 1) else {
+        return Err(Refusal::Row);
     };
-    let ByteRead::Byte {
-        value: account,
-        next: b,
-    } = row_fields::byte(s, a)
-    else {
-        return Row::Refused(Refusal::Row);
+    let Some((account, b)) = row_fields::byte(s, a) else {
+        return Err(Refusal::Row);
     };
-    let Numeral::Value {
-        value: quantity,
-        next: c,
-    } = row_fields::number(s, b)
-    else {
-        return Row::Refused(Refusal::Row);
+    let Some((quantity, c)) = row_fields::number(s, b) else {
+        return Err(Refusal::Row);
     };
-    let Numeral::Value {
-        value: section,
-        next: d,
-    } = row_fields::section(s, c)
-    else {
-        return Row::Refused(Refusal::Row);
+    let Some((section, d)) = row_fields::section(s, c) else {
+        return Err(Refusal::Row);
     };
     at_end(
         s,
@@ -127,26 +85,14 @@ pub fn exercise(s: &[u8]) -> Row
 pub fn decline(s: &[u8]) -> Row
     ensures { result ≡ decline_row s.now }
 {
-    let ByteRead::Byte {
-        value: series,
-        next: a,
-    } = row_fields::byte(s, 1)
-    else {
-        return Row::Refused(Refusal::Row);
+    let Some((series, a)) = row_fields::byte(s, 1) else {
+        return Err(Refusal::Row);
     };
-    let ByteRead::Byte {
-        value: account,
-        next: b,
-    } = row_fields::byte(s, a)
-    else {
-        return Row::Refused(Refusal::Row);
+    let Some((account, b)) = row_fields::byte(s, a) else {
+        return Err(Refusal::Row);
     };
-    let Numeral::Value {
-        value: section,
-        next: c,
-    } = row_fields::section(s, b)
-    else {
-        return Row::Refused(Refusal::Row);
+    let Some((section, c)) = row_fields::section(s, b) else {
+        return Err(Refusal::Row);
     };
     at_end(
         s,
@@ -163,33 +109,17 @@ pub fn decline(s: &[u8]) -> Row
 pub fn mark(s: &[u8]) -> Row
     ensures { result ≡ mark_row s.now }
 {
-    let ByteRead::Byte {
-        value: series,
-        next: a,
-    } = row_fields::byte(s, 1)
-    else {
-        return Row::Refused(Refusal::Row);
+    let Some((series, a)) = row_fields::byte(s, 1) else {
+        return Err(Refusal::Row);
     };
-    let Numeral::Value {
-        value: option,
-        next: b,
-    } = row_fields::number(s, a)
-    else {
-        return Row::Refused(Refusal::Row);
+    let Some((option, b)) = row_fields::number(s, a) else {
+        return Err(Refusal::Row);
     };
-    let Numeral::Value {
-        value: future,
-        next: c,
-    } = row_fields::number(s, b)
-    else {
-        return Row::Refused(Refusal::Row);
+    let Some((future, c)) = row_fields::number(s, b) else {
+        return Err(Refusal::Row);
     };
-    let Numeral::Value {
-        value: tick_value,
-        next: d,
-    } = row_fields::number(s, c)
-    else {
-        return Row::Refused(Refusal::Row);
+    let Some((tick_value, d)) = row_fields::number(s, c) else {
+        return Err(Refusal::Row);
     };
     at_end(
         s,

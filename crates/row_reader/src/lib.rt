@@ -17,10 +17,10 @@ pub fn read_row(calendar: &[u64], s: &[u8]) -> Row
     ensures { result ≡ row_of (dates_of calendar.now) s.now }
 {
     if MAX_ROW < s.len() {
-        return Row::Refused(Refusal::Row);
+        return Err(Refusal::Row);
     }
     if s.len() == 0 {
-        return Row::Refused(Refusal::Row);
+        return Err(Refusal::Row);
     }
     let letter = s[0];
     match letter {
@@ -31,6 +31,6 @@ pub fn read_row(calendar: &[u64], s: &[u8]) -> Row
         b'M' => kind::mark(s),
         b'I' => kind::intraday(s),
         b'V' => kind::evening(s),
-        _ => Row::Refused(Refusal::Row),
+        _ => Err(Refusal::Row),
     }
 }

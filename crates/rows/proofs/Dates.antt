@@ -6,40 +6,38 @@ use mathlib.Core.Logic.{⊎_elim}
 use native.Mathlib.Decide.{dec_lt}
 use native.Mathlib.Omega.{arith}
 use lib.ListN.{length}
+use Rattle.std.specs.Prelude.{Option, Some, None, Result, Ok, Err}
 use Rattle.terms.specs.Refusals as no
 use Rattle.contract.specs.Code as code
 use Rattle.contract.specs.declared.types.Date.{Date}
 use Rattle.contract.specs.declared.types.Refusal as codes
 use Rattle.contract.specs.declared.types.Terms.{Terms}
-use Rattle.contract.specs.declared.types.Read.{Read}
-use Rattle.contract.specs.declared.types.Read.TheVariants.{Code, NoCode}
 use Rattle.decimal.proofs.Numerals.{length_below}
 use Rattle.calendar.specs.Days.{day_from, day_of, max_dates}
-use Rattle.calendar.specs.declared.types.Day.{Day}
-use Rattle.calendar.specs.declared.types.Day.TheVariants.{On, NoDay}
 use Rattle.calendar.proofs.Promises.{day_within}
 use Rattle.rows.specs.Cut.{max_row}
 use Rattle.rows.specs.Row.{number, on_code, on_day, listing, dated_listing, row_of}
 use Rattle.rows.specs.Grammar.{Short, EachShort, Plain, list_text, dated_text, Says, numbers, list, dated}
 use Rattle.rows.specs.Promises.{answer, Dated, SameRow, other, refused, unlisted, listed, SameMarket, ByDays}
 use Rattle.rows.specs.declared.types.Refusal.TheVariants as refusal
-use Rattle.rows.specs.declared.types.Row.{Row}
-use Rattle.rows.specs.declared.types.Row.TheVariants.{Refused}
+use Rattle.rows.specs.Row.{Row}
 use Rattle.rows.proofs.Readers.{row_long}
 use Rattle.rows.proofs.RowTexts.{dated_or_not, row_read, row_said}
 use Rattle.rows.proofs.Listings.{list_read, dated_read}
+use Rattle.contract.specs.Code.{coded}
+use Rattle.contract.specs.declared.types.Code.{Code}
 
 -- a day of a calendar is a number that a row can give
-day_short : (calendar : List Date) → length calendar ≤ max_dates → (d : Date) (day : ℕ) → day_of calendar d ≡ On day → Short day
+day_short : (calendar : List Date) → length calendar ≤ max_dates → (d : Date) (day : ℕ) → day_of calendar d ≡ Some day → Short day
 day_short calendar few d day e =
     record { digits = omega (arith, length_below 2 day (omega (arith, few, day_within calendar d day e))) }
 
 module _ (calendar : List Date) (text : List ℕ) (tick : ℕ) (short : Short tick) where
-  module _ (n : ℕ) (t : Terms) (e : code.read_code text ≡ Code n t) where
+  module _ (n : ℕ) (t : Terms) (e : code.read_code text ≡ Ok (coded n t)) where
     -- A row that ends after R lists as the row that gives the day of its code's date, with any calendar,
     pub listed_by_date : length calendar ≤ max_dates →
         (day : ℕ) →
-        day_of calendar t.date ≡ On day →
+        day_of calendar t.date ≡ Some day →
         (es : List Date) →
         row_of calendar (dated_text text tick) ≡ row_of es (list_text text tick day)
     unfolding listing dated_listing on_code on_day
@@ -50,17 +48,17 @@ module _ (calendar : List Date) (text : List ℕ) (tick : ℕ) (short : Short ti
         ∙ sym (list_read es text n t e tick day (short, (day_short calendar few t.date day d, tt)))
 
     -- and is 22 where the date isn't in the calendar.
-    undated_row : day_of calendar t.date ≡ NoDay → row_of calendar (dated_text text tick) ≡ Refused refusal.NoTradingDate
+    undated_row : day_of calendar t.date ≡ None → row_of calendar (dated_text text tick) ≡ Err refusal.NoTradingDate
     unfolding dated_listing on_code on_day
     undated_row d = rw (dated_read calendar text n t e tick (short, tt), e, d)
 
-    pub no_trading_date_lem : day_of calendar t.date ≡ NoDay → answer (row_of calendar (dated_text text tick)) ≡ no.no_trading_date
+    pub no_trading_date_lem : day_of calendar t.date ≡ None → answer (row_of calendar (dated_text text tick)) ≡ no.no_trading_date
     unfolding answer number
     no_trading_date_lem d = rw (undated_row d)
 
   -- 17, 18 and 19 come before 22.
-  module _ (plain : Plain text) (r : codes.Refusal) (e : code.read_code text ≡ NoCode r) (room : length (dated_text text tick) ≤ max_row) where
-    refused_row : row_of calendar (dated_text text tick) ≡ Refused (refusal.Code r)
+  module _ (plain : Plain text) (r : codes.Refusal) (e : code.read_code text ≡ Err r) (room : length (dated_text text tick) ≤ max_row) where
+    refused_row : row_of calendar (dated_text text tick) ≡ Err (refusal.Code r)
     unfolding dated_listing on_code
     refused_row =
         rw (row_read calendar (dated_text text tick) (dated_listing calendar text tick) room (dated text tick plain (short, tt) refl), e)
@@ -130,20 +128,20 @@ module _ (ds : List Date) (few : length ds ≤ max_dates) (es : List Date) where
   same_market (x ∷ xs) (y ∷ ys) s = ap₂ ◌∷◌ (same_row x y s.0) (same_market xs ys s.1)
 
 -- Every market has one that is listed by days, and needs no calendar.
-no_dates : (d : Date) → day_of [] d ≡ NoDay
+no_dates : (d : Date) → day_of [] d ≡ None
 unfolding day_from
 no_dates d = refl
 
 by_days_row : (ds : List Date) (x : List ℕ) {R : Type 0} → ((y : List ℕ) → SameRow ds [] x y → R) → R
 by_days_row ds x {R} g = ⊎_elim (λ d. by_code d (code.read_code d.code) refl) (λ f. g x (other f refl)) (dated_or_not x)
   where
-    by_day : (d : Dated x) (n : ℕ) (t : Terms) → code.read_code d.code ≡ Code n t → (day : Day) → day_of ds t.date ≡ day → R
-    by_day d n t e (On day) u = g (list_text d.code d.tick day) (listed d n t day e u refl)
-    by_day d n t e NoDay u = g x (unlisted d n t e u (no_dates t.date) refl)
+    by_day : (d : Dated x) (n : ℕ) (t : Terms) → code.read_code d.code ≡ Ok (coded n t) → (day : Option ℕ) → day_of ds t.date ≡ day → R
+    by_day d n t e (Some day) u = g (list_text d.code d.tick day) (listed d n t day e u refl)
+    by_day d n t e None u = g x (unlisted d n t e u (no_dates t.date) refl)
 
-    by_code : (d : Dated x) (c : Read) → code.read_code d.code ≡ c → R
-    by_code d (Code n t) e = by_day d n t e (day_of ds t.date) refl
-    by_code d (NoCode r) e = g x (refused d r e refl)
+    by_code : (d : Dated x) (c : Result Code codes.Refusal) → code.read_code d.code ≡ c → R
+    by_code d (Ok c) e = by_day d c.future c.terms e (day_of ds c.terms.date) refl
+    by_code d (Err r) e = g x (refused d r e refl)
 
 pub by_days : (ds : List Date) (xs : List (List ℕ)) → ByDays ds xs
 by_days ds [] = record { rows = []; same = tt }

@@ -5,19 +5,20 @@ use mathlib.Core.List.{List, [], ◌∷◌}
 use mathlib.Core.Logic.{inl, inr}
 use native.Mathlib.Omega.{arith}
 use lib.ListN.{length, length-append}
+use Rattle.std.specs.Prelude.{Ok}
 use Rattle.decimal.specs.Text.{decimal}
 use Rattle.decimal.proofs.Each.{Each}
 use Rattle.contract.specs.Code.{read_code}
 use Rattle.contract.specs.Promises.{capital, digit, hyphen, point}
 use Rattle.contract.specs.declared.types.Date.{Date}
 use Rattle.contract.specs.declared.types.Terms.{Terms}
-use Rattle.contract.specs.declared.types.Read.TheVariants.{Code}
 use Rattle.contract.proofs.Bytes.{ByteOfCode, code_bytes}
 use Rattle.contract.proofs.Promises.{read_is, code_read_at_most}
 use Rattle.rows.specs.Cut.{max_row}
 use Rattle.rows.specs.Row.{listing, dated_listing, row_of}
 use Rattle.rows.specs.Grammar.{fields_text, EachShort, Plain, list_text, dated_text, list, dated}
 use Rattle.rows.proofs.RowTexts.{row_read}
+use Rattle.contract.specs.Code.{coded}
 
 -- ---- a code stands in a row as it is: no byte of it is a comma or a double quote
 no_comma : (b : ℕ) → ByteOfCode b → b ≡ 44 → ⊥
@@ -47,7 +48,7 @@ no_fields : length (fields_text []) ≡ 0
 unfolding fields_text
 no_fields = refl
 
-module _ (calendar : List Date) (code : List ℕ) (n : ℕ) (t : Terms) (e : read_code code ≡ Code n t) (tick : ℕ) where
+module _ (calendar : List Date) (code : List ℕ) (n : ℕ) (t : Terms) (e : read_code code ≡ Ok (coded n t)) (tick : ℕ) where
   pub list_read : (last : ℕ) → EachShort (tick ∷ last ∷ []) → row_of calendar (list_text code tick last) ≡ listing code tick last
   list_read last short =
       let room : length (list_text code tick last) ≤ max_row =

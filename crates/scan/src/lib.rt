@@ -2,26 +2,24 @@
 #![tactic(auto)]
 
 ghost use Rattle.std.specs.Prelude.{◌≡◌, ◌+◌, ◌*◌, min, get_or};
-ghost use Rattle.decimal.specs.Read.{digit_of, numeral_at, two_digits_at, capped};
+ghost use Rattle.decimal.specs.Read.{as_digit, numeral_at, two_digits_at, capped};
 ghost use Rattle.decimal.specs.Scan.{byte_at};
 
-use decimal::{Numeral, Scanned};
-
-// The digit that a byte stands for, or 10.
-pub fn digit(b: u8) -> u64
-    ensures { result ≡ digit_of b }
+// The digit that a byte stands for.
+pub fn digit(b: u8) -> Option<u64>
+    ensures { result ≡ as_digit b }
 {
     match b {
-        48..=57 => (b - 48) as u64,
-        _ => 10,
+        b'0'..=b'9' => Some((b - b'0') as u64),
+        _ => None,
     }
 }
 
-// The digit at a place, or 10.
-pub fn digit_at(s: &[u8], at: usize) -> u64
-    ensures { result ≡ digit_of (get_or s.now at 0) }
+// The digit at a place.
+pub fn digit_at(s: &[u8], at: usize) -> Option<u64>
+    ensures { result ≡ as_digit (get_or s.now at 0) }
 {
-    if at < s.len() { digit(s[at]) } else { 10 }
+    if at < s.len() { digit(s[at]) } else { None }
 }
 
 // A number with one digit more, or `most` where that is above it.
@@ -37,55 +35,40 @@ fn grown(v: u64, d: u64, most: u64) -> u64
 }
 
 // The number without leading zeros at a place, however long; above `most` it stands as `most`.
-pub fn numeral(s: &[u8], at: usize, most: u64) -> Numeral
+pub fn numeral(s: &[u8], at: usize, most: u64) -> Option<(u64, usize)>
     ensures { result ≡ capped most (numeral_at s.now at) }
 {
-    let first = digit_at(s, at);
-    if 9 < first {
-        return Numeral::NoNumeral;
-    }
-    let mut i = at + 1;
+    let first = digit_at(s, at)?;
     if first == 0 {
-        return Numeral::Value { value: 0, next: i };
+        return Some((0, at + 1));
     }
     let mut v = grown(0, first, most);
-    while i < s.len() {
-        let d = digit(s[i]);
-        if 9 < d {
-            return Numeral::Value { value: v, next: i };
-        }
+    for i in at + 1..s.len() {
+        let Some(d) = digit(s[i]) else {
+            return Some((v, i));
+        };
         v = grown(v, d, most);
-        i += 1;
     }
-    Numeral::Value { value: v, next: i }
+    Some((v, s.len()))
 }
 
 // The number of two digits at a place.
-pub fn two_digits(s: &[u8], at: usize) -> Numeral
+pub fn two_digits(s: &[u8], at: usize) -> Option<(u64, usize)>
     ensures { result ≡ two_digits_at s.now at }
 {
-    let tens = digit_at(s, at);
-    if 9 < tens {
-        return Numeral::NoNumeral;
-    }
-    let ones = digit_at(s, at + 1);
-    if 9 < ones {
-        return Numeral::NoNumeral;
-    }
-    Numeral::Value {
-        value: tens * 10 + ones,
-        next: at + 2,
-    }
+    let tens = digit_at(s, at)?;
+    let ones = digit_at(s, at + 1)?;
+    Some((tens * 10 + ones, at + 2))
 }
 
 // A byte that must stand at a place.
-pub fn expect(s: &[u8], at: usize, b: u8) -> Scanned
+pub fn expect(s: &[u8], at: usize, b: u8) -> Option<usize>
     ensures { result ≡ byte_at s.now at b }
 {
     if at < s.len() {
         if s[at] == b {
-            return Scanned::Next(at + 1);
+            return Some(at + 1);
         }
     }
-    Scanned::Broken
+    None
 }

@@ -6,71 +6,68 @@ ghost use Rattle.decimal.specs.Put.{Put};
 ghost use Rattle.contract.specs.Strike.{hundredths_text, strike_text, fraction_at, hundredths_at, strike_at, strike_verdict};
 
 use contract::bounds::TOO_MANY_UNITS;
-use contract::types::{HundredthsRead, Refusal, StrikeRead, Verdict};
-use decimal::{Numeral, Scanned};
+use contract::types::{Refusal, Verdict};
 use terms::bounds::MAX_STRIKE;
 
 // The one or two digits after the point, which end the code.
-fn fraction(s: &[u8], at: usize) -> HundredthsRead
+fn fraction(s: &[u8], at: usize) -> Option<u64>
     ensures { result ≡ fraction_at s.now at }
 {
-    let tens = scan::digit_at(s, at);
-    if 9 < tens {
-        return HundredthsRead::NoHundredths;
-    }
+    let Some(tens) = scan::digit_at(s, at) else {
+        return None;
+    };
     let i = at + 1;
     if i == s.len() {
         if tens == 0 {
-            return HundredthsRead::NoHundredths;
+            return None;
         }
-        return HundredthsRead::Hundredths(tens * 10);
+        return Some(tens * 10);
     }
-    let ones = scan::digit_at(s, i);
-    if 9 < ones {
-        return HundredthsRead::NoHundredths;
-    }
+    let Some(ones) = scan::digit_at(s, i) else {
+        return None;
+    };
     if ones == 0 {
-        return HundredthsRead::NoHundredths;
+        return None;
     }
     if i + 1 == s.len() {
-        return HundredthsRead::Hundredths(tens * 10 + ones);
+        return Some(tens * 10 + ones);
     }
-    HundredthsRead::NoHundredths
+    None
 }
 
 // What follows the units, up to the end of the code.
-fn hundredths(s: &[u8], at: usize) -> HundredthsRead
+fn hundredths(s: &[u8], at: usize) -> Option<u64>
     ensures { result ≡ hundredths_at s.now at }
 {
     if at == s.len() {
-        return HundredthsRead::Hundredths(0);
+        return Some(0);
     }
-    let Scanned::Next(i) = scan::expect(s, at, b'.') else {
-        return HundredthsRead::NoHundredths;
+    let Some(i) = scan::expect(s, at, b'.') else {
+        return None;
     };
     fraction(s, i)
 }
 
 // The strike in hundredths, up to the end of the code. More units than a strike has count as the least such: every such
 // strike is refused.
-pub fn last(s: &[u8], at: usize) -> StrikeRead
+pub fn last(s: &[u8], at: usize) -> Option<u64>
     ensures { result ≡ strike_at s.now at }
 {
-    let Numeral::Value { value: units, next } = scan::numeral(s, at, TOO_MANY_UNITS) else {
-        return StrikeRead::NoStrike;
+    let Some((units, next)) = scan::numeral(s, at, TOO_MANY_UNITS) else {
+        return None;
     };
-    let HundredthsRead::Hundredths(part) = hundredths(s, next) else {
-        return StrikeRead::NoStrike;
+    let Some(part) = hundredths(s, next) else {
+        return None;
     };
-    StrikeRead::Strike(units * 100 + part)
+    Some(units * 100 + part)
 }
 
 pub fn verdict(strike: u64) -> Verdict
     ensures { result ≡ strike_verdict strike }
 {
     match strike {
-        1..=MAX_STRIKE => Verdict::Accepted,
-        _ => Verdict::Refused(Refusal::StrikeText),
+        1..=MAX_STRIKE => Ok(()),
+        _ => Err(Refusal::StrikeText),
     }
 }
 

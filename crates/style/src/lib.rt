@@ -5,25 +5,18 @@ ghost use Rattle.std.specs.Prelude.{◌≡◌, ◌+◌, ◌≤◌, length};
 ghost use Rattle.decimal.specs.Put.{Put};
 ghost use Rattle.contract.specs.Style.{style_text, style_at};
 
-use contract::types::{Style, StyleRead};
-use decimal::Scanned;
+use contract::types::Style;
 
 // The style, and the place where the strike begins. A second blank is no style.
-pub fn blank(s: &[u8], at: usize) -> StyleRead
+pub fn blank(s: &[u8], at: usize) -> Option<(Style, usize)>
     ensures { result ≡ style_at s.now at }
 {
-    let Scanned::Next(next) = scan::expect(s, at, b' ') else {
-        return StyleRead::Styled {
-            style: Style::NoBlank,
-            next: at,
-        };
+    let Some(next) = scan::expect(s, at, b' ') else {
+        return Some((Style::NoBlank, at));
     };
     match scan::expect(s, next, b' ') {
-        Scanned::Next(_) => StyleRead::NoStyle,
-        Scanned::Broken => StyleRead::Styled {
-            style: Style::Blank,
-            next,
-        },
+        Some(_) => None,
+        None => Some((Style::Blank, next)),
     }
 }
 

@@ -9,8 +9,8 @@ use Rattle.calendar_reader.proofs.read.Goals as goal
 pub loop-at-init : goal.loop-at-init
 loop-at-init c = reached_start _ _ (length-replicate {A = ℕ} max_dates 0)
 
-pub returns-then-n-eq-MAX_DATES : goal.returns-then-n-eq-MAX_DATES
-returns-then-n-eq-MAX_DATES c = search reached_full
+pub returns-then-count-eq-MAX_DATES : goal.returns-then-count-eq-MAX_DATES
+returns-then-count-eq-MAX_DATES c = search reached_full
 
 pub returns-in_default : goal.returns-in_default
 returns-in_default c = search reached_undated depth 12

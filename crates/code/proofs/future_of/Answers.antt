@@ -8,7 +8,7 @@ unfolding future_of
 returns-in_default c = search answers
 
 pub slice_bounds-result-end-2 : goal.slice_bounds-result-end-2
-slice_bounds-result-end-2 c = search part_length
+slice_bounds-result-end-2 c = part_length _ _ _ _ c.read.ensures c.in-Ok.is
 
 pub returns : goal.returns
 unfolding future_of

@@ -33,19 +33,19 @@ returns-in_default-blank c = search fields depth 14
 pub returns-in_default-last : goal.returns-in_default-last
 unfolding layout_at
 returns-in_default-last c =
-    scanned_next _ _ _ _ _ _ c.leading.ensures c.in-Next.is
-    (scanned_next _ _ _ _ _ _ c.expect.ensures c.in-Next-expect.is
-    (dated _ _ _ _ _ _ _ c.digits.ensures c.in-Dated.is
-    (kinded _ _ _ _ _ _ _ _ c.letters.ensures c.in-Kinded.is
-    (styled _ _ _ _ _ _ _ c.blank.ensures c.in-Styled.is
+    scanned_next _ _ _ _ _ _ c.leading.ensures c.in-Some.is
+    (scanned_next _ _ _ _ _ _ c.expect.ensures c.in-Some-expect.is
+    (dated _ _ _ _ _ _ _ c.digits.ensures c.in-Some-digits.is
+    (kinded _ _ _ _ _ _ _ _ c.letters.ensures c.in-Some-letters.is
+    (styled _ _ _ _ _ _ _ c.blank.ensures c.in-Some-blank.is
     (unstruck _ _ _ _ _ c.last.ensures c.in_default-last.is refl)))))
 
 pub returns : goal.returns
 unfolding layout_at
 returns c =
-    scanned_next _ _ _ _ _ _ c.leading.ensures c.in-Next.is
-    (scanned_next _ _ _ _ _ _ c.expect.ensures c.in-Next-expect.is
-    (dated _ _ _ _ _ _ _ c.digits.ensures c.in-Dated.is
-    (kinded _ _ _ _ _ _ _ _ c.letters.ensures c.in-Kinded.is
-    (styled _ _ _ _ _ _ _ c.blank.ensures c.in-Styled.is
-    (struck _ _ _ _ _ _ c.last.ensures c.in-Strike.is refl)))))
+    scanned_next _ _ _ _ _ _ c.leading.ensures c.in-Some.is
+    (scanned_next _ _ _ _ _ _ c.expect.ensures c.in-Some-expect.is
+    (dated _ _ _ _ _ _ _ c.digits.ensures c.in-Some-digits.is
+    (kinded _ _ _ _ _ _ _ _ c.letters.ensures c.in-Some-letters.is
+    (styled _ _ _ _ _ _ _ c.blank.ensures c.in-Some-blank.is
+    (struck _ _ _ _ _ _ c.last.ensures c.in-Some-last.is refl)))))

@@ -7,10 +7,10 @@ pub returns-in_default : goal.returns-in_default
 unfolding dated_listing
 returns-in_default c = search (code_terms, code_refused, day_on, day_none) depth 12
 
-pub returns-in-NoCode : goal.returns-in-NoCode
+pub returns-in-Err : goal.returns-in-Err
 unfolding dated_listing
-returns-in-NoCode c = search (code_terms, code_refused, day_on, day_none) depth 12
+returns-in-Err c = search (code_terms, code_refused, day_on, day_none) depth 12
 
-pub returns-in-On : goal.returns-in-On
+pub returns-in-Some : goal.returns-in-Some
 unfolding dated_listing
-returns-in-On c = search (code_terms, code_refused, day_on, day_none) depth 12
+returns-in-Some c = search (code_terms, code_refused, day_on, day_none) depth 12

@@ -16,17 +16,17 @@ returns-in_default-number c = search fields depth 12
 
 pub slice_bounds-dated_listing-count : goal.slice_bounds-dated_listing-count
 slice_bounds-dated_listing-count c =
-    let f = code_within _ 1 _ _ c.code_end.ensures c.in-At.is in
+    let f = code_within _ 1 _ _ c.code_end.ensures c.in-Some.is in
     omega (arith, f.0)
 
 pub slice_bounds-dated_listing-start : goal.slice_bounds-dated_listing-start
 slice_bounds-dated_listing-start c =
-    let f = code_within _ 1 _ _ c.code_end.ensures c.in-At.is in
+    let f = code_within _ 1 _ _ c.code_end.ensures c.in-Some.is in
     omega (arith, f.0)
 
 pub slice_bounds-dated_listing-end : goal.slice_bounds-dated_listing-end
 slice_bounds-dated_listing-end c =
-    let f = code_within _ 1 _ _ c.code_end.ensures c.in-At.is in
+    let f = code_within _ 1 _ _ c.code_end.ensures c.in-Some.is in
     omega (arith, f.1)
 
 pub returns-then-b-s : goal.returns-then-b-s
@@ -43,17 +43,17 @@ returns-then-c-s c = search (fields, hit, past, tests) depth 14
 
 pub slice_bounds-listing-count : goal.slice_bounds-listing-count
 slice_bounds-listing-count c =
-    let f = code_within _ 1 _ _ c.code_end.ensures c.in-At.is in
+    let f = code_within _ 1 _ _ c.code_end.ensures c.in-Some.is in
     omega (arith, f.0)
 
 pub slice_bounds-listing-start : goal.slice_bounds-listing-start
 slice_bounds-listing-start c =
-    let f = code_within _ 1 _ _ c.code_end.ensures c.in-At.is in
+    let f = code_within _ 1 _ _ c.code_end.ensures c.in-Some.is in
     omega (arith, f.0)
 
 pub slice_bounds-listing-end : goal.slice_bounds-listing-end
 slice_bounds-listing-end c =
-    let f = code_within _ 1 _ _ c.code_end.ensures c.in-At.is in
+    let f = code_within _ 1 _ _ c.code_end.ensures c.in-Some.is in
     omega (arith, f.1)
 
 pub returns : goal.returns

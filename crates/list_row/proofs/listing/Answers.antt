@@ -3,10 +3,10 @@ use Rattle.rows.proofs.Readers.{code_terms, code_refused}
 use Rattle.rows.specs.Row.{listing}
 use Rattle.list_row.proofs.listing.Goals as goal
 
-pub returns-in-NoCode : goal.returns-in-NoCode
+pub returns-in-Err : goal.returns-in-Err
 unfolding listing
-returns-in-NoCode c = search (code_terms, code_refused)
+returns-in-Err c = search (code_terms, code_refused)
 
-pub returns-in-Code : goal.returns-in-Code
+pub returns-in-Ok : goal.returns-in-Ok
 unfolding listing
-returns-in-Code c = search (code_terms, code_refused)
+returns-in-Ok c = search (code_terms, code_refused)

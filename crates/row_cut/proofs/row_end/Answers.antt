@@ -13,12 +13,6 @@ crlf-ends-requires c = omega arith
 pub returns-then-ends : goal.returns-then-ends
 returns-then-ends c = search end_here
 
-pub overflow_add-i : goal.overflow_add-i
-overflow_add-i c = omega arith
-
-pub loop-i-smaller : goal.loop-i-smaller
-loop-i-smaller c = omega arith
-
 pub loop-i-preserved : goal.loop-i-preserved
 loop-i-preserved c = search end_later
 

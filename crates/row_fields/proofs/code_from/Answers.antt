@@ -19,12 +19,6 @@ bounds-s-i-in-loop-i c = omega arith
 pub returns-then-s-i-eq34 : goal.returns-then-s-i-eq34
 returns-then-s-i-eq34 c = search field.code_quote
 
-pub overflow_add-i : goal.overflow_add-i
-overflow_add-i c = omega arith
-
-pub loop-i-smaller : goal.loop-i-smaller
-loop-i-smaller c = omega arith
-
 pub loop-i-preserved : goal.loop-i-preserved
 loop-i-preserved c = search field.code_more
 

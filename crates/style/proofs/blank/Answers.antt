@@ -7,10 +7,10 @@ pub returns-in_default : goal.returns-in_default
 unfolding style_at
 returns-in_default c = search fields
 
-pub returns-in-Next-expect : goal.returns-in-Next-expect
+pub returns-in-Some-expect : goal.returns-in-Some-expect
 unfolding style_at
-returns-in-Next-expect c = search fields
+returns-in-Some-expect c = search fields
 
-pub returns-in-Broken : goal.returns-in-Broken
+pub returns-in-None : goal.returns-in-None
 unfolding style_at
-returns-in-Broken c = search fields
+returns-in-None c = search fields

@@ -1,6 +1,7 @@
 -- `code_fields::future::name` meets its contract.
 use mathlib.Core.Path.{refl}
 use native.Mathlib.Omega.{arith}
+use Rattle.std.proofs.Common.{le_antisymm}
 use borrow.Author.Tests.{not-true, not-false}
 use Rattle.contract.proofs.FutureField as field
 use Rattle.code_fields.proofs.future.name.Goals as goal
@@ -17,14 +18,8 @@ returns-then-not-letter c = search (field.name_stop, not-true)
 pub returns-then-i-ge-MAX_NAME : goal.returns-then-i-ge-MAX_NAME
 returns-then-i-ge-MAX_NAME c = search (field.name_long, not-false)
 
-pub overflow_add-i : goal.overflow_add-i
-overflow_add-i c = omega arith
-
-pub loop-i-smaller : goal.loop-i-smaller
-loop-i-smaller c = omega arith
-
 pub loop-i-preserved : goal.loop-i-preserved
 loop-i-preserved c = (omega arith, search (field.name_more, not-false))
 
 pub returns : goal.returns
-returns c = search field.name_end_lem
+returns c = search (field.name_end_lem, le_antisymm)

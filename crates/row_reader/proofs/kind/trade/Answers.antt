@@ -32,4 +32,4 @@ returns-in_default-sections c = search fields depth 12
 pub returns : goal.returns
 unfolding trade_row
 returns c =
-    byte_value _ _ _ _ _ _ _ c.byte.ensures c.in-Byte.is (search fields depth 12)
+    byte_value _ _ _ _ _ _ _ c.byte.ensures c.in-Some.is (search fields depth 12)
