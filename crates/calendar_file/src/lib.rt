@@ -7,7 +7,7 @@ ghost use Rattle.calendar.specs.File.{InBuffer, LoadedFrom, LoadedBy, Loaded};
 
 use buffers::fill;
 use calendar::bounds::MAX_TEXT;
-use calendar::types::{CalendarRead, Contents, Opened, Reading};
+use calendar::types::{Dates, Opened};
 use calendar_found::{of_contents, opened, without_dates};
 use std::io::{ErrorKind, Read};
 use std::rt::Files;
@@ -15,7 +15,7 @@ use std::{fs, io};
 use stream::types::Input;
 
 // Reads until the file ends or the buffer is full.
-fn contents<R: Read>(input: &mut R, buf: &mut [u8]) -> Contents
+fn contents<R: Read>(input: &mut R, buf: &mut [u8]) -> Option<usize>
     ensures { InBuffer (length buf.old) result }
 {
     let mut have = 0;
@@ -25,18 +25,18 @@ fn contents<R: Read>(input: &mut R, buf: &mut [u8]) -> Contents
                 have = end;
             }
             Input::Ended => {
-                return Contents::Bytes(have);
+                return Some(have);
             }
             Input::Failed => {
-                return Contents::NotRead;
+                return None;
             }
         }
     }
-    Contents::Bytes(have)
+    Some(have)
 }
 
 // The calendar that a file holds: a byte more than those of the longest calendar is asked for, and no more.
-fn read_through<R: Read>(input: &mut R, buf: &mut [u8]) -> CalendarRead
+fn read_through<R: Read>(input: &mut R, buf: &mut [u8]) -> Option<Dates>
     requires { length buf.old ≡ max_text + 1 }
     ensures { LoadedFrom result }
 {
@@ -45,24 +45,24 @@ fn read_through<R: Read>(input: &mut R, buf: &mut [u8]) -> CalendarRead
 }
 
 // The calendar of a file that was opened, which is closed then; of one that wasn't nothing is read.
-fn read_file<R: Read + Drop>(input: io::Result<R>) -> CalendarRead
+fn read_file<R: Read + Drop>(input: io::Result<R>) -> Option<Dates>
     ensures { LoadedFrom result }
 {
     let mut space = [0; MAX_TEXT + 1];
     let buf: &mut [u8] = &mut space;
     match input {
         Ok(mut file) => read_through(&mut file, buf),
-        Err(_) => of_contents(Contents::NotRead, buf),
+        Err(_) => of_contents(None, buf),
     }
 }
 
 // The calendar by what opening its file told.
-fn load_by<R: Read + Drop>(input: io::Result<R>, found: Opened) -> CalendarRead
+fn load_by<R: Read + Drop>(input: io::Result<R>, found: Opened) -> Option<Dates>
     ensures { LoadedBy found result }
 {
     match found {
-        Opened::Missing => without_dates(Reading::Dates(0)),
-        Opened::Unreadable => without_dates(Reading::NoCalendar),
+        Opened::Missing => Some(without_dates()),
+        Opened::Unreadable => None,
         Opened::Readable => read_file(input),
     }
 }
@@ -84,7 +84,7 @@ fn is_link<H: Files>(files: &H, name: &str) -> bool {
 }
 
 // The calendar of the file calendar.txt: without dates where there is none, and no calendar where it can't be read.
-pub fn load<H: Files>(files: &H) -> CalendarRead
+pub fn load<H: Files>(files: &H) -> Option<Dates>
     ensures { Loaded result }
 {
     let name = "calendar.txt";

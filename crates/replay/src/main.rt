@@ -3,15 +3,15 @@
 #![tactic(auto)]
 
 ghost use Rattle.std.specs.Prelude.{◌≤◌, ◌<◌, ◌≡◌, length, take};
-ghost use Rattle.calendar.specs.Days.{max_dates, dates_of};
-ghost use Rattle.calendar.specs.Text.{read_as, Few};
+ghost use Rattle.calendar.specs.Days.{dates_of};
+ghost use Rattle.calendar.specs.Text.{read_as, Few, Room};
 ghost use Rattle.rows.specs.Cut.{kept_bytes};
 ghost use Rattle.stream.specs.Input.{ending};
 ghost use Rattle.stream.specs.Output.{output_room, waiting_room, Ready, TurnedBy, Turned, Replayed, RanBy, Ran};
 
 use buffer_rows::pass;
 use buffers::{fill, without_rows};
-use calendar::types::{CalendarRead, Reading};
+use calendar::types::Dates;
 use row_step::pass_row;
 use std::io::{Read, Write};
 use std::rt::Files;
@@ -115,17 +115,16 @@ fn with_input<R: Read, W: Write>(
 fn run_by<R: Read, W: Write>(
     input: &mut R,
     output: &mut W,
-    read: CalendarRead,
+    read: Option<Dates>,
     out: &mut [u8],
 ) -> Waiting
-    requires { (Few read.reading) × (length read.numbers ≡ max_dates) × (output_room ≤ length out.old) }
-    ensures { (result.at ≤ waiting_room) × RanBy (read_as read.reading read.numbers) out.new result }
+    requires { (Few read) × (Room read) × (output_room ≤ length out.old) }
+    ensures { (result.at ≤ waiting_room) × RanBy (read_as read) out.new result }
 {
-    let numbers = read.numbers;
-    match read.reading {
-        Reading::Dates(n) => with_input(input, output, &numbers[..n], out),
-        Reading::NoCalendar => without_rows(out),
-    }
+    let Some(Dates { numbers, count }) = read else {
+        return without_rows(out);
+    };
+    with_input(input, output, &numbers[..count], out)
 }
 
 // The whole program, but for the writing of what waits at its end.

@@ -10,7 +10,6 @@ ghost use Rattle.stream.specs.Output.{Ready};
 ghost use Rattle.stream.specs.Parts.{RowPut, RowPassed};
 
 use event_row::event_row;
-use rows::types::Row;
 use std::io::Write;
 use stream::types::Replay;
 
@@ -21,7 +20,7 @@ fn answer_row(calendar: &[u64], bytes: &[u8], out: &mut [u8], replay: &mut Repla
 {
     replay.row = replay.row.wrapping_add(1);
     match row_reader::read_row(calendar, bytes) {
-        Row::Refused(why) => {
+        Err(why) => {
             replay.waiting.at = lines::answer(
                 out,
                 replay.waiting.at,
@@ -31,7 +30,7 @@ fn answer_row(calendar: &[u64], bytes: &[u8], out: &mut [u8], replay: &mut Repla
                 answers::number::of_row(why),
             );
         }
-        Row::Accepted(event) => event_row(out, replay, event),
+        Ok(event) => event_row(out, replay, event),
     }
 }
 

@@ -9,7 +9,6 @@ use book::state::Effect;
 use buffers::put_answer;
 use positions_apart::{put_back, taken_out};
 use row_step::pass_row;
-use rows::types::End;
 use std::io::Write;
 use stream::types::{Replay, SeriesRow};
 use today::today_of;
@@ -39,7 +38,7 @@ pub fn whole_rows<W: Write>(
         ) = series_row::series_row(calendar, input, from)
         else {
             replay.book.series = put_back(replay.book.series, held);
-            let End::At(end) = row_cut::row_end(input, from) else {
+            let Some(end) = row_cut::row_end(input, from) else {
                 return from;
             };
             pass_row(output, calendar, &input[from..end], out, replay);

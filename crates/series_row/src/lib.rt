@@ -5,7 +5,6 @@ ghost use Rattle.std.specs.Prelude.{◌≡◌};
 ghost use Rattle.calendar.specs.Days.{dates_of};
 ghost use Rattle.stream.specs.Rows.{series_row_at};
 
-use rows::types::{End, Row};
 use stream::types::SeriesRow;
 use terms::bounds::SERIES;
 
@@ -13,10 +12,10 @@ use terms::bounds::SERIES;
 pub fn series_row(calendar: &[u64], input: &[u8], from: usize) -> Option<SeriesRow>
     ensures { result ≡ series_row_at (dates_of calendar.now) input.now from }
 {
-    let End::At(end) = row_cut::row_end(input, from) else {
+    let Some(end) = row_cut::row_end(input, from) else {
         return None;
     };
-    let Row::Accepted(event) = row_reader::read_row(calendar, &input[from..end]) else {
+    let Ok(event) = row_reader::read_row(calendar, &input[from..end]) else {
         return None;
     };
     let series = effect::series_of(event);

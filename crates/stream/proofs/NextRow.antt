@@ -15,16 +15,12 @@ use Rattle.book.specs.declared.state.Event.{Event}
 use Rattle.contract.specs.declared.types.Date.{Date}
 use Rattle.rows.specs.Cut.{cut, end_from}
 use Rattle.rows.specs.Field.{on_end}
-use Rattle.rows.specs.Row.{row_of}
-use Rattle.rows.specs.declared.types.End.{End}
-use Rattle.rows.specs.declared.types.End.TheVariants.{At, NoEnd}
+use Rattle.rows.specs.Row.{Row, row_of}
 use Rattle.rows.specs.declared.types.Refusal.{Refusal}
-use Rattle.rows.specs.declared.types.Row.{Row}
-use Rattle.rows.specs.declared.types.Row.TheVariants.{Accepted, Refused}
 use Rattle.rows.proofs.Ends.{row_before, row_fits, next_row}
 use Rattle.stream.specs.Rows.{series_row, series_row_at}
 use Rattle.stream.specs.declared.types.SeriesRow.{SeriesRow}
-use Rattle.std.specs.Prelude.{Option, None, Some}
+use Rattle.std.specs.Prelude.{Option, None, Some, Ok, Err}
 use Rattle.std.specs.Option.{unwrap_or}
 
 abbrev pub on_series : ℕ → Event → ℕ → Option SeriesRow
@@ -33,11 +29,11 @@ on_series i e next = Some (record { series = i; event = e; next = next })
 -- ---- steps of the search
 -- a row by what the reader made of it
 module _ (r row : Row) (y : Option SeriesRow) (next : ℕ) (p : r ≡ row) where
-  pub row_none : (why : Refusal) → r ≡ Refused why → y ≡ None → y ≡ series_row row next
+  pub row_none : (why : Refusal) → r ≡ Err why → y ≡ None → y ≡ series_row row next
   unfolding series_row
   row_none why q f = rw (← p, q) f
 
-  module _ (e : Event) (q : r ≡ Accepted e) (i : ℕ) (h : i ≡ series_of e) where
+  module _ (e : Event) (q : r ≡ Ok e) (i : ℕ) (h : i ≡ series_of e) where
     pub row_on_none : series_room ≤ i → y ≡ None → y ≡ series_row row next
     unfolding series_row
     row_on_none k f = rw (← p, q) (hit _ (le-leb series_room (series_of e) (rw (← h) k)) f)
@@ -50,7 +46,7 @@ module _ (r row : Row) (y : Option SeriesRow) (next : ℕ) (p : r ≡ row) where
 -- a row that ends in the buffer and says an event on this series, and where the row after it starts
 pub record Found (calendar : List Date) (s : List ℕ) (from i : ℕ) (e : Event) (next : ℕ) : Type 0 where
   pub row : List ℕ
-  pub says : row_of calendar row ≡ Accepted e
+  pub says : row_of calendar row ≡ Ok e
   pub first : cut (drop from s) ≡ row_before row (cut (drop next s))
   pub later : from < next
   pub within : next ≤ length s
@@ -65,8 +61,8 @@ pub found : (calendar : List Date) (s : List ℕ) (from : ℕ) {r : Option Serie
 unfolding series_row_at series_row on_end choose
 found calendar s from p i e next q = by_end (end_from s from) refl (sym p ∙ q)
   where
-    by_test : (end : ℕ) (event : Event) (t : Bool) → leb series_room (series_of event) ≡ t → end_from s from ≡ At end
-        → row_of calendar (take (end - from) (drop from s)) ≡ Accepted event
+    by_test : (end : ℕ) (event : Event) (t : Bool) → leb series_room (series_of event) ≡ t → end_from s from ≡ Some end
+        → row_of calendar (take (end - from) (drop from s)) ≡ Ok event
         → choose t None (on_series (series_of event) event (end + 2)) ≡ on_series i e next → Found calendar s from i e next
     by_test end event true h a b f = absurd (other_no f)
     by_test end event false h a b f =
@@ -77,7 +73,7 @@ found calendar s from p i e next q = by_end (end_from s from) refl (sym p ∙ q)
         let fits = row_fits s from (end_from s from) refl end a in
         record {
           row = take (end - from) (drop from s);
-          says = b ∙ ap Accepted y;
+          says = b ∙ ap Ok y;
           first = rw (← z) (next_row s from (end_from s from) refl end a);
           later = omega (arith, z, fits.0);
           within = omega (arith, z, fits.1);
@@ -85,12 +81,12 @@ found calendar s from p i e next q = by_end (end_from s from) refl (sym p ∙ q)
           room = rw (← x) (leb-false series_room (series_of event) h);
         }
 
-    by_row : (end : ℕ) (row : Row) → end_from s from ≡ At end → row_of calendar (take (end - from) (drop from s)) ≡ row
+    by_row : (end : ℕ) (row : Row) → end_from s from ≡ Some end → row_of calendar (take (end - from) (drop from s)) ≡ row
         → series_row row (end + 2) ≡ on_series i e next → Found calendar s from i e next
-    by_row end (Accepted event) a b f = by_test end event (leb series_room (series_of event)) refl a b f
-    by_row end (Refused why) a b f = absurd (other_no f)
+    by_row end (Ok event) a b f = by_test end event (leb series_room (series_of event)) refl a b f
+    by_row end (Err why) a b f = absurd (other_no f)
 
-    by_end : (x : End) → end_from s from ≡ x
+    by_end : (x : Option ℕ) → end_from s from ≡ x
         → on_end x None (λ (end : ℕ). series_row (row_of calendar (take (end - from) (drop from s))) (end + 2)) ≡ on_series i e next → Found calendar s from i e next
-    by_end (At end) a f = by_row end (row_of calendar (take (end - from) (drop from s))) a refl f
-    by_end NoEnd a f = absurd (other_no f)
+    by_end (Some end) a f = by_row end (row_of calendar (take (end - from) (drop from s))) a refl f
+    by_end None a f = absurd (other_no f)

@@ -7,7 +7,7 @@ use Rattle.contract.specs.declared.types.Date.{Date}
 use Rattle.decimal.specs.Put.{Put}
 use Rattle.report.specs.Report.{report_of, row_room}
 use Rattle.rows.specs.Cut.{cut}
-use Rattle.rows.specs.declared.types.Row.{Row}
+use Rattle.rows.specs.Row.{Row}
 use Rattle.stream.specs.Rows.{read_rows, book_by, lines_by}
 use Rattle.stream.specs.Output.{waiting_room, waits_on, let_go, Intact, Ready, Answered}
 use Rattle.stream.specs.declared.types.Replay.{Replay}

@@ -3,9 +3,9 @@ use Rattle.std.proofs.Common.{◌+◌, ◌%◌, ◌^◌, sym, refl, ◌∙◌, a
 use Rattle.stream.proofs.Books.{book_refused, lines_refused, row_put}
 use Rattle.row_step.proofs.answer_row.Goals as goal
 
-pub returns-in-Refused : goal.returns-in-Refused
-returns-in-Refused c =
-    let q = sym c.read_row.ensures ∙ c.in-Refused.is in
+pub returns-in-Err : goal.returns-in-Err
+returns-in-Err c =
+    let q = sym c.read_row.ensures ∙ c.in-Err.is in
     let p = c.answer-replay.ensures in
     let from = c.args.replay.now in
     record {
@@ -17,5 +17,5 @@ returns-in-Refused c =
       intact = refl;
     }
 
-pub returns-in-Accepted : goal.returns-in-Accepted
-returns-in-Accepted c = row_put refl (sym c.read_row.ensures ∙ c.in-Accepted.is) c.event_row.ensures
+pub returns-in-Ok : goal.returns-in-Ok
+returns-in-Ok c = row_put refl (sym c.read_row.ensures ∙ c.in-Ok.is) c.event_row.ensures

@@ -112,17 +112,17 @@ returns-in_default-row_end g c =
 
 -- ---- the other row is answered, and the positions are taken out of the book after it
 pub slice_bounds-pass_row-count : goal.slice_bounds-pass_row-count
-slice_bounds-pass_row-count g c = (row_fits _ _ _ c.row_end.ensures _ c.in-At.is).0
+slice_bounds-pass_row-count g c = (row_fits _ _ _ c.row_end.ensures _ c.in-Some-row_end.is).0
 
 pub slice_bounds-pass_row-start : goal.slice_bounds-pass_row-start
-slice_bounds-pass_row-start g c = (row_fits _ _ _ c.row_end.ensures _ c.in-At.is).0
+slice_bounds-pass_row-start g c = (row_fits _ _ _ c.row_end.ensures _ c.in-Some-row_end.is).0
 
 pub slice_bounds-pass_row-end : goal.slice_bounds-pass_row-end
-slice_bounds-pass_row-end g c = omega (arith, (row_fits _ _ _ c.row_end.ensures _ c.in-At.is).1)
+slice_bounds-pass_row-end g c = omega (arith, (row_fits _ _ _ c.row_end.ensures _ c.in-Some-row_end.is).1)
 
 pub loop-series-smaller-in_default : goal.loop-series-smaller-in_default
 loop-series-smaller-in_default g c =
-    let ends = row_fits _ _ _ c.row_end.ensures _ c.in-At.is in
+    let ends = row_fits _ _ _ c.row_end.ensures _ c.in-Some-row_end.is in
     omega (arith, ends.0, ends.1)
 
 pub loop-series-preserved-in_default : goal.loop-series-preserved-in_default
@@ -137,8 +137,8 @@ loop-series-preserved-in_default g c =
       rw same
           (record {
             answered = next_answered c.args.input.now c.loop-series.from c.row_end.ensures p.answered
-                c.in-At.end c.in-At.is a.ensures.answered;
-            within = (row_fits _ _ _ c.row_end.ensures _ c.in-At.is).1;
+                c.in-Some-row_end.end c.in-Some-row_end.is a.ensures.answered;
+            within = (row_fits _ _ _ c.row_end.ensures _ c.in-Some-row_end.is).1;
             ready = a.ensures.ready;
           }),
     )

@@ -6,13 +6,13 @@ use Rattle.rows.proofs.Ends.{row_fits}
 use Rattle.rows.proofs.Fields.{end_found, end_missing}
 use Rattle.stream.specs.Rows.{series_row_at}
 use Rattle.stream.proofs.NextRow.{row_none, row_on_none, row_on_series}
-use Rattle.series_row.proofs.series_row.Goals.{In-At}
+use Rattle.series_row.proofs.series_row.Goals.{In-Some}
 use Rattle.series_row.proofs.series_row.Goals as goal
 
 -- where the row that was found ends
-module _ (c : In-At) where
-  ends : (c.args.from ≤ c.in-At.end) × (c.in-At.end + 2 ≤ length c.args.input.now)
-  ends = row_fits _ _ _ c.row_end.ensures _ c.in-At.is
+module _ (c : In-Some) where
+  ends : (c.args.from ≤ c.in-Some.end) × (c.in-Some.end + 2 ≤ length c.args.input.now)
+  ends = row_fits _ _ _ c.row_end.ensures _ c.in-Some.is
 
 pub returns-in_default : goal.returns-in_default
 unfolding series_row_at
@@ -36,7 +36,7 @@ unfolding series_row_at
 returns-then-series-ge-SERIES c = search (end_found, row_on_none) depth 12
 
 pub overflow_add-result : goal.overflow_add-result
-overflow_add-result c = omega (arith, (ends (goal.at.overflow_add-result c).In-At).1, c.well_formed.1.0)
+overflow_add-result c = omega (arith, (ends (goal.at.overflow_add-result c).In-Some).1, c.well_formed.1.0)
 
 pub returns : goal.returns
 unfolding series_row_at
