@@ -121,10 +121,11 @@ fn run_by<R: Read, W: Write>(
     requires { (Few read) × (Room read) × (output_room ≤ length out.old) }
     ensures { (result.at ≤ waiting_room) × RanBy (read_as read) out.new result }
 {
-    let Some(Dates { numbers, count }) = read else {
+    let Some(dates) = read else {
         return without_rows(out);
     };
-    with_input(input, output, &numbers[..count], out)
+    let numbers = dates.numbers;
+    with_input(input, output, &numbers[..dates.count], out)
 }
 
 // The whole program, but for the writing of what waits at its end.
