@@ -19,6 +19,7 @@ fn contents<R: Read>(input: &mut R, buf: &mut [u8]) -> Option<usize>
     ensures { InBuffer (length buf.old) result }
 {
     let mut have = 0;
+    // no count: a read may give fewer bytes than there is room for
     while have < buf.len() {
         match fill(input, buf, have) {
             Input::UpTo(end) => {

@@ -28,6 +28,7 @@ pub fn whole_rows<W: Write>(
 {
     let mut held = taken_out(replay.book.series);
     let mut from = 0;
+    // no count: a turn goes on where the row before it ended
     loop {
         let Some(
             SeriesRow {
