@@ -1,36 +1,43 @@
 // The option's type, C or P, and its category, A or E.
-ghost use Rattle.std.specs.Prelude.{◌≡◌, ◌+◌, ◌≤◌, length};
+ghost use Rattle.std.specs.Prelude.{◌≡◌, ◌+◌, ◌≤◌, ◌<◌, length, get_or, eqb, Some, None};
+ghost use Rattle.choice.specs.Choice.{choose};
 ghost use Rattle.decimal.specs.Put.{Put};
 ghost use Rattle.contract.specs.Kind.{type_byte, category_byte, type_at, category_at, kind_at, kind_text};
 
 use terms::{Category, OptionType};
 
-fn option_type(s: &[u8], at: usize) -> Option<(OptionType, usize)>
-    ensures { result ≡ type_at s.now at }
+// One of two letters, with what it stands for.
+fn either<T: Copy>(s: &[u8], at: usize, first: (u8, T), second: (u8, T)) -> Option<(T, usize)>
+    ensures within { at < length s.now → result ≡ choose (eqb (get_or s.now at 0) first.0) (Some (first.1, at + 1)) (choose (eqb (get_or s.now at 0) second.0) (Some (second.1, at + 1)) None) }
+    ensures past { length s.now ≤ at → result ≡ None }
 {
     if s.len() <= at {
         return None;
     }
-    let b = s[at];
-    match b {
-        b'C' => Some((OptionType::Call, at + 1)),
-        b'P' => Some((OptionType::Put, at + 1)),
-        _ => None,
+    if s[at] == first.0 {
+        return Some((first.1, at + 1));
     }
+    if s[at] == second.0 {
+        return Some((second.1, at + 1));
+    }
+    None
+}
+
+fn option_type(s: &[u8], at: usize) -> Option<(OptionType, usize)>
+    ensures { result ≡ type_at s.now at }
+{
+    either(s, at, (b'C', OptionType::Call), (b'P', OptionType::Put))
 }
 
 fn category(s: &[u8], at: usize) -> Option<(Category, usize)>
     ensures { result ≡ category_at s.now at }
 {
-    if s.len() <= at {
-        return None;
-    }
-    let b = s[at];
-    match b {
-        b'A' => Some((Category::American, at + 1)),
-        b'E' => Some((Category::European, at + 1)),
-        _ => None,
-    }
+    either(
+        s,
+        at,
+        (b'A', Category::American),
+        (b'E', Category::European),
+    )
 }
 
 // The two letters.
@@ -46,6 +53,7 @@ pub fn letters(s: &[u8], at: usize) -> Option<(OptionType, Category, usize)>
     Some((option, category, next))
 }
 
+// A `match` for each type: two arms each, and no step that one function could do for both.
 fn type_letter(option: OptionType) -> u8
     ensures { result ≡ type_byte option }
 {

@@ -1,22 +1,18 @@
 -- `code_fields::kind::category` meets its contract.
-use Rattle.contract.proofs.KindField.{category_is, category_past}
-use Rattle.choice.specs.Choice.{choose}
-use Rattle.choice.proofs.Chain.{tests}
+use Prim.Native.Nat.{◌≤◌}
+use mathlib.Core.Path.{◌≡◌, ◌∙◌}
+use mathlib.Core.Logic.{inl, inr}
+use Rattle.std.specs.Prelude.{◌⊎◌, ◌<◌}
+use lib.ListN.{length}
+use Rattle.std.proofs.lemmas.Bool.{cases_lt}
+use Rattle.contract.proofs.KindField.{category_past}
 use Rattle.contract.specs.Kind.{category_at, category_byte}
 use Rattle.code_fields.proofs.kind.category.Goals as goal
 
-pub returns-then-s-at : goal.returns-then-s-at
-unfolding category_at category_byte choose
-returns-then-s-at c = search category_past
-
-pub returns-in-65 : goal.returns-in-65
-unfolding category_at category_byte choose
-returns-in-65 c = search category_is
-
-pub returns-in-69 : goal.returns-in-69
-unfolding category_at category_byte choose
-returns-in-69 c = search category_is
-
-pub returns-in_default : goal.returns-in_default
-unfolding category_at category_byte choose
-returns-in_default c = search tests
+pub returns : goal.returns
+unfolding category_at category_byte
+returns c = by_place (cases_lt c.args.at (length c.args.s.now))
+  where
+    by_place : (c.args.at < length c.args.s.now) ⊎ (length c.args.s.now ≤ c.args.at) → c.either.result ≡ category_at c.args.s.now c.args.at
+    by_place (inl h) = c.either.ensures.within h
+    by_place (inr h) = c.either.ensures.past h ∙ category_past _ _ h

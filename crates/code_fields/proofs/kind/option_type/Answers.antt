@@ -1,22 +1,18 @@
 -- `code_fields::kind::option_type` meets its contract.
-use Rattle.contract.proofs.KindField.{type_is, type_past}
-use Rattle.choice.specs.Choice.{choose}
-use Rattle.choice.proofs.Chain.{tests}
+use Prim.Native.Nat.{◌≤◌}
+use mathlib.Core.Path.{◌≡◌, ◌∙◌}
+use mathlib.Core.Logic.{inl, inr}
+use Rattle.std.specs.Prelude.{◌⊎◌, ◌<◌}
+use lib.ListN.{length}
+use Rattle.std.proofs.lemmas.Bool.{cases_lt}
+use Rattle.contract.proofs.KindField.{type_past}
 use Rattle.contract.specs.Kind.{type_at, type_byte}
 use Rattle.code_fields.proofs.kind.option_type.Goals as goal
 
-pub returns-then-s-at : goal.returns-then-s-at
-unfolding type_at type_byte choose
-returns-then-s-at c = search type_past
-
-pub returns-in-67 : goal.returns-in-67
-unfolding type_at type_byte choose
-returns-in-67 c = search type_is
-
-pub returns-in-80 : goal.returns-in-80
-unfolding type_at type_byte choose
-returns-in-80 c = search type_is
-
-pub returns-in_default : goal.returns-in_default
-unfolding type_at type_byte choose
-returns-in_default c = search tests
+pub returns : goal.returns
+unfolding type_at type_byte
+returns c = by_place (cases_lt c.args.at (length c.args.s.now))
+  where
+    by_place : (c.args.at < length c.args.s.now) ⊎ (length c.args.s.now ≤ c.args.at) → c.either.result ≡ type_at c.args.s.now c.args.at
+    by_place (inl h) = c.either.ensures.within h
+    by_place (inr h) = c.either.ensures.past h ∙ type_past _ _ h
