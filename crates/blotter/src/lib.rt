@@ -30,13 +30,12 @@ pub fn traded(
     ensures { result ≡ by_series (λ i a. trades_cost blotter trades i (get_or coefficients i 0) a) }
 {
     let mut out = [0i64; SERIES * ACCOUNTS];
-    for k in 0..trades {
-        let trade = blotter[k];
+    for trade in &blotter[..trades] {
         let series = trade.series as usize;
         let first = series * ACCOUNTS;
         let buyer = first + trade.buyer as usize;
         let seller = first + trade.seller as usize;
-        let due = amount(trade, coefficients[series]);
+        let due = amount(*trade, coefficients[series]);
         out[buyer] += due;
         out[seller] -= due;
     }

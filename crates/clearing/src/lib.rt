@@ -59,21 +59,15 @@ pub fn step(mut book: Book, event: Event) -> Step
     if SERIES <= i {
         return whole::whole(book, event);
     }
-    let mut s = book.series[i];
-    let listing = s.listing;
-    let mark = s.mark;
     let today = today_of(&book);
-    let effect = effect::effect(today, listing, &s.positions, event);
+    let s = &mut book.series[i];
+    let effect = effect::effect(today, s.listing, &s.positions, event);
     apply::move_positions(&mut s.positions, effect);
     apply::set_request(&mut s.requests, effect);
     apply::set_decline(&mut s.declined, effect);
-    let marked = apply::mark(mark, effect);
-    s.mark = marked;
-    book.series[i] = s;
+    s.mark = apply::mark(s.mark, effect);
     let n = recording::next_record(book.trades);
-    let standing = book.blotter[n];
-    let entry = recording::entry(standing, effect);
-    book.blotter[n] = entry;
+    book.blotter[n] = recording::entry(book.blotter[n], effect);
     book.trades = recording::counted(book.trades, effect);
     Step {
         answer: recording::answer(effect),

@@ -1,4 +1,4 @@
--- Laws of tables, and the invariants of loops that fill or change an array.
+-- Laws of tables, and the invariant of a loop that changes an array.
 use mathlib.Core.Path.{◌≡◌, refl, sym, ap, ◌∙◌, subst}
 use mathlib.Core.List.{List, [], ◌∷◌}
 use Prim.Native.Nat.{ℕ, zero, suc, ◌+◌, ◌<◌, ◌≤◌}
@@ -44,31 +44,6 @@ module _ {A : Type 0} where
   -- a table of one value
   pub replicate_table : (n : ℕ) (x : A) → replicate n x ≡ table n (λ k. x)
   replicate_table n x = is_table n (λ k. x) (replicate n x) x (length-replicate n x) (λ k lt. get_or-replicate n k x x lt)
-
-  -- ---- a loop that fills an array: its first i places are as f says
-  pub record Filled (n i : ℕ) (l : List A) (d : A) (f : ℕ → A) : Type 0 where
-    pub len : length l ≡ n
-    pub done : (k : ℕ) → k < i → get_or l k d ≡ f k
-
-  pub filled_start : {n : ℕ} (l : List A) (d : A) (f : ℕ → A) → length l ≡ n → Filled n 0 l d f
-  filled_start l d f e = record { len = e; done = λ k lt. absurd (none k lt) }
-    where
-      none : (k : ℕ) → k < 0 → ⊥
-      none k lt = omega arith
-
-  pub filled_next : {n i : ℕ} {l : List A} {d : A} {f : ℕ → A} → Filled n i l d f → i < n → (v : A) → v ≡ f i → Filled n (i + 1) (set l i v) d f
-  filled_next {n} {i} {l} {d} {f} h lt v e =
-      record { len = length-set l i v ∙ h.len; done = λ k below. by k below (ℕ_discrete k i) }
-    where
-      by : (k : ℕ) → k < i + 1 → Dec (k ≡ i) → get_or (set l i v) k d ≡ f k
-      by k below (yes q) = rw (q, get_or-set_same l i v d (omega (arith, h.len))) e
-      by k below (no q) = get_or-set_other l i k v d q ∙ h.done k (omega arith)
-
-  pub filled_ext : {n i : ℕ} {l : List A} {d : A} {f g : ℕ → A} → ((k : ℕ) → f k ≡ g k) → Filled n i l d f → Filled n i l d g
-  filled_ext e h = record { len = h.len; done = λ k lt. h.done k lt ∙ e k }
-
-  pub filled_all : {n i : ℕ} {l : List A} {d : A} {f : ℕ → A} → Filled n i l d f → n ≤ i → l ≡ table n f
-  filled_all {n} {i} {l} {d} {f} h le = is_table n f l d h.len (λ k lt. h.done k (omega arith))
 
   -- ---- a loop that changes an array in place: its first i places are as f says, and the others as they were in m
   pub record Updated (n i : ℕ) (l m : List A) (d : A) (f : ℕ → A) : Type 0 where

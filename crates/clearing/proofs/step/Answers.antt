@@ -73,7 +73,7 @@ returns c =
       moved = c.move_positions.ensures;
       requested = c.set_request.ensures;
       declining = c.set_decline.ensures;
-      mark = c.mark-marked.ensures;
-      recorded = c.entry-entry.ensures;
+      mark = c.mark-s.ensures;
+      recorded = c.entry.ensures;
       counted = c.counted.ensures;
     }))
