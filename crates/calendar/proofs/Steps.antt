@@ -1,40 +1,23 @@
 -- Steps of the search for a date and of the reader of lines, as their turns and returns ask them.
 use Prim.Native.Nat.{ℕ, zero, suc, ◌+◌, ◌-◌, ◌≤◌, ◌<◌}
 use mathlib.Core.Path.{◌≡◌, refl, sym, ap, ◌∙◌}
-use mathlib.Core.Bool.{Bool, true, false}
 use mathlib.Core.List.{List, [], ◌∷◌, ◌++◌, append-nil, append_assoc, map-append}
 use native.Mathlib.Numerals.{add-one}
 use native.Mathlib.Omega.{arith}
-use lib.ListN.{length, get_or, take, drop, set, length-set, drop_of_length-le}
+use lib.ListN.{length, take, set, length-set}
 use lib.Seq.{take-suc-set}
 use borrow.Author.Tests.{le-leb, lt-leb, le-ltb, lt-ltb}
 use Rattle.std.specs.Prelude.{Option, Some, None}
 use Rattle.choice.specs.Choice.{choose}
-use Rattle.decimal.proofs.Places.{drop_next}
 use Rattle.contract.specs.Date.{TwoDigitsEach, on_date}
 use Rattle.contract.specs.declared.types.Date.{Date}
 use Rattle.contract.proofs.DateField.{dated, undated}
 use Rattle.contract.proofs.Scanning.{scanned_next, scanned_broken}
 use Rattle.contract.proofs.WholeLayout.{is_accepted, is_refused}
-use Rattle.calendar.specs.Days.{same_date, day_from, number_of, max_dates, date_of, dates_of}
+use Rattle.calendar.specs.Days.{number_of, max_dates, date_of, dates_of}
 use Rattle.calendar.specs.Text.{Calendar, trading, broken, line_at, onto, lines_from, calendar_of, read_as, Few, Room, ReadAs}
 use Rattle.calendar.proofs.Promises.{date_of_number}
 use Rattle.calendar.proofs.Lines.{line_text}
-
--- ---- the search for a date, number by number
-module _ {x : Option ℕ} (numbers : List ℕ) (i : ℕ) (d : Date) (e : x ≡ day_from i (dates_of (drop i numbers)) d) where
-  pub day_none : length numbers ≤ i → None ≡ x
-  unfolding day_from
-  day_none h = rw (e, drop_of_length-le numbers h)
-
-  module _ (h : i < length numbers) (t : Bool) (p : t ≡ same_date (date_of (get_or numbers i 0)) d) where
-    pub day_found : t ≡ true → Some i ≡ x
-    unfolding day_from choose
-    day_found q = rw (e, drop_next numbers i h, ← p, q)
-
-    pub day_passed : t ≡ false → x ≡ day_from (i + 1) (dates_of (drop (i + 1) numbers)) d
-    unfolding day_from choose
-    day_passed q = rw (e, drop_next numbers i h, ← p, q)
 
 -- ---- a line and its end
 pub ruleset fields = (dated, undated, is_accepted, is_refused, scanned_next, scanned_broken)

@@ -8,7 +8,8 @@ pub struct Dates {
     pub count: usize,
 }
 
-// The file of the calendar: there is none, it was opened, or it is there and can't be opened.
+// The file of the calendar: there is none, it was opened, or it is there and can't be opened. No Option or Result:
+// that there is none is no failure, and no kind has a value.
 #[derive(Clone, Copy)]
 pub enum Opened {
     Missing,

@@ -7,6 +7,7 @@ ghost use Rattle.calendar.specs.Days.{same_date, date_of, dates_of, day_of};
 use contract::types::Date;
 
 // Whether the number YYMMDD is that of a date: whatever the date's own numbers are, day, month and year are compared one by one.
+// No == of dates: they have none, and nothing else compares two.
 fn is_date(number: u64, date: Date) -> bool
     ensures { result ≡ same_date (date_of number) date }
 {
@@ -23,11 +24,6 @@ fn is_date(number: u64, date: Date) -> bool
 pub fn day_of(calendar: &[u64], date: Date) -> Option<u64>
     ensures { result ≡ day_of (dates_of calendar.now) date }
 {
-    for i in 0..calendar.len() {
-        let found = is_date(calendar[i], date);
-        if found {
-            return Some(i as u64);
-        }
-    }
-    None
+    let place = calendar.iter().position(|number| is_date(*number, date))?;
+    Some(place as u64)
 }

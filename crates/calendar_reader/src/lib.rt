@@ -55,6 +55,7 @@ pub fn read(text: &[u8]) -> Option<Dates>
     let mut count = 0;
     let mut before = 0;
     let mut at = 0;
+    // A while: each step is as long as the line that it reads.
     while at < text.len() {
         if count == MAX_DATES {
             return None;

@@ -27,25 +27,17 @@ fn list_event(terms: Terms, tick: u64, last_day: u64) -> Event
 fn listing(code: &[u8], tick: u64, last: u64) -> Row
     ensures { result ≡ listing code.now tick last }
 {
-    match code::read(code) {
-        Err(refusal) => Err(Refusal::Code(refusal)),
-        Ok(said) => Ok(list_event(said.terms, tick, last)),
-    }
+    let said = code::read(code).map_err(Refusal::Code)?;
+    Ok(list_event(said.terms, tick, last))
 }
 
 // A listing whose last day is the day of its code's date.
 fn dated_listing(calendar: &[u64], code: &[u8], tick: u64) -> Row
     ensures { result ≡ dated_listing (dates_of calendar.now) code.now tick }
 {
-    match code::read(code) {
-        Err(why) => Err(Refusal::Code(why)),
-        Ok(said) => {
-            let Some(last) = calendar_day::day_of(calendar, said.terms.date) else {
-                return Err(Refusal::NoTradingDate);
-            };
-            Ok(list_event(said.terms, tick, last))
-        }
-    }
+    let dated = code::read(code).map_err(Refusal::Code)?;
+    let last = calendar_day::day_of(calendar, dated.terms.date).ok_or(Refusal::NoTradingDate)?;
+    Ok(list_event(dated.terms, tick, last))
 }
 
 // L,code,R,last day, or L,code,R. The code is judged once the row is whole.

@@ -21,7 +21,7 @@ fn crlf(s: &[u8], i: usize) -> bool
     false
 }
 
-// The first CRLF from a place on.
+// The first CRLF from a place on. No position of a slice from there: the place may lie past the end.
 pub fn row_end(s: &[u8], from: usize) -> Option<usize>
     ensures { result ≡ end_from s.now from }
 {

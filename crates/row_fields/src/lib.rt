@@ -78,7 +78,7 @@ pub fn sections(s: &[u8], at: usize) -> Option<(u64, u64, usize)>
     Some((buyer, seller, c))
 }
 
-// The comma that ends a code, from a place on.
+// The comma that ends a code, from a place on. No position: a quote before it ends the search with none.
 fn code_from(s: &[u8], from: usize) -> Option<usize>
     ensures { result ≡ code_on from (drop from s.now) }
 {

@@ -22,6 +22,7 @@ pub fn read_row(calendar: &[u64], s: &[u8]) -> Row
     if s.len() == 0 {
         return Err(Refusal::Row);
     }
+    // By letter, as the rules list the rows.
     let letter = s[0];
     match letter {
         b'L' => list_row::list(calendar, s),
