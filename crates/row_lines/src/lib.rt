@@ -41,11 +41,7 @@ pub fn report(out: &mut [u8], at: usize, row: u64, before: [Series; SERIES], ste
     ensures put { Put out.old at (rule.report_of row before step) out.new result }
     ensures upper_bound { result ≤ at + rule.row_room }
 {
-    let answer = step.answer;
-    let paid = step.money;
-    let book = step.book;
-    let after = book.series;
-    let first = answered(out, at, row, answer);
-    let next = money(out, first, row, paid);
-    futures_lines::futures(out, next, row, before, after)
+    let first = answered(out, at, row, step.answer);
+    let next = money(out, first, row, step.money);
+    futures_lines::futures(out, next, row, before, step.book.series)
 }
