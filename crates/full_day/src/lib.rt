@@ -86,10 +86,10 @@ pub fn full_day_trades(days: u64) -> u64
     ensures { result ≡ (days * (rule.traded).trades) % 2 ^ 64 }
 {
     let listed = after(clearing::empty(), 0, SERIES);
-    let mut carried_out = 0;
+    let mut carried_out: u64 = 0;
     for _ in 0..days {
         let book = after(listed, TRADES, BLOTTER);
-        carried_out = std::num::wrapping_add_u64(carried_out, book.trades as u64);
+        carried_out = carried_out.wrapping_add(book.trades as u64);
     }
     carried_out
 }
@@ -99,10 +99,10 @@ pub fn full_day_evenings(days: u64) -> u64
     ensures { result ≡ (days * (rule.next_day).day) % 2 ^ 64 }
 {
     let full = after(clearing::empty(), 0, MARKS + SERIES);
-    let mut carried_out = 0;
+    let mut carried_out: u64 = 0;
     for _ in 0..days {
         let step = clearing::step(full, Event::Evening);
-        carried_out = std::num::wrapping_add_u64(carried_out, step.book.day as u64);
+        carried_out = carried_out.wrapping_add(step.book.day as u64);
     }
     carried_out
 }

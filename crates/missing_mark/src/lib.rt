@@ -7,7 +7,7 @@ ghost use Rattle.book.specs.Verdicts.{first_unmarked};
 
 use book::state::Book;
 
-// The lowest live series without a mark.
+// The lowest live series without a mark. Asked for as a loop that yields the first unmarked one by `break`.
 pub fn first_unmarked(book: Book) -> Option<u8>
     requires { Good book }
     ensures { result ≡ first_unmarked book }

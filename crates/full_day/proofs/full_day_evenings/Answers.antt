@@ -6,7 +6,7 @@ use Rattle.book.specs.declared.state.Event.TheVariants.{Evening}
 use Rattle.book.specs.declared.state.Step.{Step}
 use Rattle.full_day.specs.Day as rule
 use Rattle.full_day.proofs.Counting.{none, one_more}
-use Rattle.full_day.proofs.full_day_evenings.Goals.{After-wrapping_add_u64-carried_out}
+use Rattle.full_day.proofs.full_day_evenings.Goals.{After-step-step}
 use Rattle.full_day.proofs.full_day_evenings.Goals as goal
 
 pub after-full-requires : goal.after-full-requires
@@ -19,7 +19,7 @@ pub step-step-requires : goal.step-step-requires
 step-step-requires c = c.after-full.ensures.1
 
 -- the book after one evening
-next_day : (c : After-wrapping_add_u64-carried_out) → c.step-step.result.book ≡ rule.next_day
+next_day : (c : After-step-step) → c.step-step.result.book ≡ rule.next_day
 next_day c =
     ap (λ (s : Step). s.book) c.step-step.ensures.0
     ∙ ap (λ (b : Book). (step_of b Evening).book) (c.after-full.ensures.0 ∙ ap (λ (b : Book). rule.after b 0 rule.events) c.empty.ensures.0)
@@ -27,7 +27,7 @@ next_day c =
 pub loop-preserved : goal.loop-preserved
 loop-preserved c =
     let l = c.loop in
-    (c.wrapping_add_u64-carried_out.ensures.value ∙ rw (next_day c) (one_more l.counter (rule.next_day).day l.carried_out l.invariant.0), omega (arith))
+    (rw (next_day (goal.at.loop-preserved c).After-step-step) (one_more l.counter (rule.next_day).day l.carried_out l.invariant.0), omega (arith))
 
 pub returns : goal.returns
 returns c =

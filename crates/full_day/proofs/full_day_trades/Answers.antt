@@ -4,7 +4,7 @@ use Rattle.terms.specs.Bounds.{series_room, blotter_room}
 use Rattle.book.specs.declared.state.Book.{Book}
 use Rattle.full_day.specs.Day as rule
 use Rattle.full_day.proofs.Counting.{none, one_more}
-use Rattle.full_day.proofs.full_day_trades.Goals.{After-wrapping_add_u64-carried_out}
+use Rattle.full_day.proofs.full_day_trades.Goals.{After-after-book}
 use Rattle.full_day.proofs.full_day_trades.Goals as goal
 
 pub after-listed-requires : goal.after-listed-requires
@@ -17,7 +17,7 @@ pub after-book-requires : goal.after-book-requires
 after-book-requires c = (c.after-listed.ensures.1, omega arith)
 
 -- the trades of one day
-traded : (c : After-wrapping_add_u64-carried_out) → c.after-book.result ≡ rule.traded
+traded : (c : After-after-book) → c.after-book.result ≡ rule.traded
 traded c =
     c.after-book.ensures.0
     ∙ ap (λ (b : Book). rule.after b series_room blotter_room) (c.after-listed.ensures.0 ∙ ap (λ (b : Book). rule.after b 0 series_room) c.empty.ensures.0)
@@ -25,7 +25,7 @@ traded c =
 pub loop-preserved : goal.loop-preserved
 loop-preserved c =
     let l = c.loop in
-    (c.wrapping_add_u64-carried_out.ensures.value ∙ rw (traded c) (one_more l.counter (rule.traded).trades l.carried_out l.invariant.0), omega (arith))
+    (rw (traded (goal.at.loop-preserved c).After-after-book) (one_more l.counter (rule.traded).trades l.carried_out l.invariant.0), omega (arith))
 
 pub returns : goal.returns
 returns c =
