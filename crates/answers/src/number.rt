@@ -1,4 +1,4 @@
-// The number of a row that is refused before it reaches the book.
+// The number of a row that is refused before it reaches the book. No conversion by From: the refusals stand in crates of rules, which have no impl.
 ghost use Rattle.std.specs.Prelude.{◌≡◌};
 ghost use Rattle.contract.specs.Code as code;
 ghost use Rattle.rows.specs.Row as row;

@@ -1,4 +1,5 @@
-// An event of a row: it is carried out or refused, and its lines are put at a place of the buffer.
+// An event of a row: it is carried out or refused, and its lines are put at a place of the buffer. One function for each kind of step, and not one for
+// all with the step handed over: each has other lines, and is read beside its rule.
 #![tactic(auto)]
 
 ghost use Rattle.std.specs.Prelude.{◌≡◌, false, ◌+◌, ◌≤◌, length};
