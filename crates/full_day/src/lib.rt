@@ -1,5 +1,5 @@
-// A day of the full size, in loops that hold the book: bench/ takes the time of a trade's step and of an evening's. Two functions, which C calls by these
-// names.
+// A day of the full size, in loops that hold the book: bench/ takes the time of a trade's step and of an evening's. Two functions, for
+// each has its own rule.
 #![tactic(auto)]
 
 ghost use Rattle.std.specs.Prelude.{◌≡◌, ◌+◌, ◌*◌, ◌%◌, ◌^◌, ◌<◌, ◌≤◌};
