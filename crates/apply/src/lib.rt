@@ -4,12 +4,14 @@
 ghost use Rattle.std.specs.Prelude.{◌≡◌};
 ghost use Rattle.integer.specs.Bounds.{Bounded};
 ghost use Rattle.terms.specs.Bounds.{max_position};
+ghost use Rattle.exercise.specs.Interest.{held_in_all};
 ghost use Rattle.book.specs.Effects as rule;
 
 use book::state::Effect;
 use places::PLACES;
 use requests::change::{decline, request};
 use series::state::Mark;
+use trade_interest::after_trade;
 use trading::change::trade;
 
 // A trade moves the positions of buyer and seller.
@@ -20,6 +22,17 @@ pub fn move_positions(positions: &mut [i32; PLACES], effect: Effect)
     match effect {
         Effect::Traded(t) => trade(positions, t),
         _ => {}
+    }
+}
+
+// The open interest after an effect, from the positions before it: a trade changes it by what it moves, no other effect does.
+pub fn interest(kept: u32, positions: &[i32; PLACES], effect: Effect) -> u32
+    requires { (rule.Fits effect) × (Bounded max_position positions.now) × (kept ≡ held_in_all positions.now) }
+    ensures { result ≡ rule.interest_by effect positions.now kept }
+{
+    match effect {
+        Effect::Traded(t) => after_trade(kept, positions, t),
+        _ => kept,
     }
 }
 

@@ -4,6 +4,7 @@ use mathlib.Core.Bool.{Bool, true, false}
 use Prim.Native.Nat.{ℕ, ◌+◌, ◌*◌, ◌≤◌, ◌<◌}
 use native.Mathlib.Decide.{dec_lt}
 use native.Mathlib.Omega.{arith}
+use borrow.Author.Tests.{eq-eqb}
 use lib.IntN.{ℤ, pos, ◌+ℤ◌, ◌-ℤ◌, +ℤ_idr, +ℤ-neg_ℤ_cancel}
 use lib.ListN.{get_or}
 use Rattle.choice.specs.Choice.{choose}
@@ -19,8 +20,9 @@ use Rattle.margin.proofs.BySeries.{bounded_by_series}
 use Rattle.terms.specs.Bounds.{accounts, series_room}
 use Rattle.series.specs.Changes.{unmarked, settled}
 use Rattle.series.specs.Good.{GoodSeries}
-use Rattle.series.specs.Series.{new_series}
+use Rattle.series.specs.Series.{new_series, last_day}
 use Rattle.series.specs.declared.state.Series.{Series}
+use Rattle.series.proofs.Interest.{interest_closed}
 use Rattle.series.proofs.Keeps.{good_unmarked, good_settled, good_later}
 use Rattle.book.specs.Good.{Good, Idle}
 use Rattle.book.specs.Sessions.{changed, intraday_money_in, intraday_money, evening_money, paid_today, paid_into, after_intraday, after_evening}
@@ -132,8 +134,9 @@ module _ (b : Book) (g : Good b) where
             (λ i lt _. good_later b.day (series_at b i) (g.series i lt));
         tick = λ i lt. rw (same_listing i (room i lt)) (g.tick i lt);
         idle = λ i lt past.
-            each (λ i s. i < b.listed → Idle s) (λ i _ _ _. record { mark = refl; requests = refl; declined = refl })
-            (λ i _ n l. g.idle i l (expired_before i n l)) i (room i lt) lt;
+            each (λ i s. i < b.listed → s.listing.last_day < b.day + 1 → Idle s)
+            (λ i _ l _ over. record { interest = interest_closed b.day (series_at b i) (last i l over); mark = refl; requests = refl; declined = refl })
+            (λ i _ n l _. g.idle i l (expired_before i n l)) i (room i lt) lt past;
         unlisted = still_unlisted (λ s. settled s b.day);
         blotter = λ k lt. absurd (none k lt);
         paid = bounded_zeros most_in_a_series cells;
@@ -154,6 +157,9 @@ module _ (b : Book) (g : Good b) where
 
       none : (k : ℕ) → k < 0 → ⊥
       none k lt = omega arith
+
+      last : (i : ℕ) → live b i ≡ true → (series_at b i).listing.last_day < b.day + 1 → last_day (series_at b i) b.day ≡ true
+      last i l over = eq-eqb b.day (series_at b i).listing.last_day (omega (arith, (live_yes b i l).today))
 
       expired_before : (i : ℕ) → live b i ≡ false → i < b.listed → (series_at b i).listing.last_day < b.day
       expired_before i n l = by (dec_lt (series_at b i).listing.last_day b.day)

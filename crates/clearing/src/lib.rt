@@ -62,6 +62,7 @@ pub fn step(mut book: Book, event: Event) -> Step
     let today = today_of(&book);
     let s = &mut book.series[i];
     let effect = effect::effect(today, s.listing, &s.positions, event);
+    s.open_interest = apply::interest(s.open_interest, &s.positions, effect);
     apply::move_positions(&mut s.positions, effect);
     apply::set_request(&mut s.requests, effect);
     apply::set_decline(&mut s.declined, effect);

@@ -14,6 +14,7 @@ pub fn new_series(listing: Listing) -> Series
         listing,
         mark: no_mark(),
         evening_price: 0,
+        open_interest: 0,
         positions: [0i32; PLACES],
         opening: [0i32; PLACES],
         requests: [0u32; PLACES],

@@ -1,4 +1,4 @@
-// The positions of all series, taken out of the series while rows are carried out, and put back.
+// The positions of all series, with the open interest of each, taken out of the series while rows are carried out, and put back.
 #![tactic(auto)]
 
 ghost use Rattle.std.specs.Prelude.{◌≡◌};
@@ -9,21 +9,24 @@ use series::state::Series;
 use std::array::from_fn;
 use terms::bounds::SERIES;
 
-// The positions of each series.
+// The positions and the open interest of each series.
 pub fn taken_out(series: [Series; SERIES]) -> [Held; SERIES]
     ensures { result ≡ rule.taken_out series }
 {
     from_fn(|i| Held {
         positions: series[i].positions,
+        open_interest: series[i].open_interest,
     })
 }
 
-// Each series with its positions.
+// Each series with its positions and its open interest.
 pub fn put_back(mut series: [Series; SERIES], held: [Held; SERIES]) -> [Series; SERIES]
     ensures { result ≡ rule.put_back series held }
 {
     for i in 0..SERIES {
-        series[i].positions = held[i].positions;
+        let s = &mut series[i];
+        s.positions = held[i].positions;
+        s.open_interest = held[i].open_interest;
     }
     series
 }

@@ -14,8 +14,8 @@ use stream::types::{Replay, SeriesRow};
 use today::today_of;
 
 // The rows of a buffer that end in it; returns where the unfinished one starts. The book stays where it is for all of them: an event on one
-// series changes that series of it, and the blotter. The positions stand apart meanwhile, so that a trade, which changes nothing else of a
-// series, does not copy the rest of it. For any other row they are put back, and taken out of the book after it.
+// series changes that series of it, and the blotter. The positions and their open interest stand apart meanwhile, so that a trade, which
+// changes nothing else of a series, does not copy the rest of it. For any other row they are put back, and taken out of the book after it.
 pub fn whole_rows<W: Write>(
     output: &mut W,
     calendar: &[u64],
@@ -54,7 +54,9 @@ pub fn whole_rows<W: Write>(
             &held[series].positions,
             event,
         );
-        apply::move_positions(&mut held[series].positions, effect);
+        let h = &mut held[series];
+        h.open_interest = apply::interest(h.open_interest, &h.positions, effect);
+        apply::move_positions(&mut h.positions, effect);
         let n = recording::next_record(replay.book.trades);
         replay.book.blotter[n] = recording::entry(replay.book.blotter[n], effect);
         replay.book.trades = recording::counted(replay.book.trades, effect);

@@ -1,5 +1,5 @@
 -- What holds of every series: a new one has it, and every event that is carried out keeps it.
-use mathlib.Core.Path.{◌≡◌, refl, ◌∙◌}
+use mathlib.Core.Path.{◌≡◌, refl, sym, ◌∙◌}
 use mathlib.Core.Bool.{Bool, true, false}
 use mathlib.Core.List.{List}
 use Prim.Native.Nat.{ℕ, ◌+◌, ◌*◌, ◌≤◌, ◌<◌}
@@ -28,6 +28,7 @@ use Rattle.series.specs.declared.event.Waiver.{Waiver}
 use Rattle.series.specs.declared.event.Quote.{Quote}
 use Rattle.series.specs.declared.state.Listing.{Listing}
 use Rattle.series.specs.declared.state.Series.{Series}
+use Rattle.series.proofs.Interest.{none_in_zeros}
 use Rattle.series.proofs.Limit.{CanMove, section_within, places_apart, limited_moved}
 
 -- ---- arrays of positions
@@ -52,6 +53,7 @@ good_new day l =
       positions = balanced_zeros max_position;
       opening = balanced_zeros max_position;
       futures = balanced_zeros (day * max_position);
+      interest = sym none_in_zeros;
       limited = limited_zeros max_position;
       opening_limited = limited_zeros max_position;
       requests = refl;
@@ -82,6 +84,7 @@ module _ (day : ℕ) (s : Series) (g : GoodSeries day s) where
         };
         opening = g.opening;
         futures = g.futures;
+        interest = refl;
         limited = limited_moved s.positions t c g.positions.long g.limited;
         opening_limited = g.opening_limited;
         requests = g.requests;
@@ -99,6 +102,7 @@ module _ (day : ℕ) (s : Series) (g : GoodSeries day s) where
         positions = g.positions;
         opening = g.opening;
         futures = g.futures;
+        interest = g.interest;
         limited = g.limited;
         opening_limited = g.opening_limited;
         requests = e;
@@ -125,6 +129,7 @@ module _ (day : ℕ) (s : Series) (g : GoodSeries day s) where
         positions = g.positions;
         opening = g.opening;
         futures = g.futures;
+        interest = g.interest;
         limited = g.limited;
         opening_limited = g.opening_limited;
         requests = g.requests;
@@ -140,6 +145,7 @@ module _ (day : ℕ) (s : Series) (g : GoodSeries day s) where
         positions = g.positions;
         opening = g.opening;
         futures = g.futures;
+        interest = g.interest;
         limited = g.limited;
         opening_limited = g.opening_limited;
         requests = g.requests;
@@ -204,6 +210,7 @@ module _ (day : ℕ) (s : Series) (g : GoodSeries day s) where
         futures =
             balanced_table (λ k. at s.futures k +ℤ new_futures s day k) (λ k lt. within_le (within_add (g.futures.bounded.each k) (new_futures_within k)) (omega arith))
             (sum_add places (at s.futures) (new_futures s day) ∙ rw (g.futures.balance, new_futures_balance) refl);
+        interest = refl;
         limited = closing_limited;
         opening_limited = closing_limited;
         requests = refl;
@@ -220,6 +227,7 @@ module _ (day : ℕ) (s : Series) (g : GoodSeries day s) where
         positions = g.positions;
         opening = g.opening;
         futures = balanced_le g.futures (omega arith);
+        interest = g.interest;
         limited = g.limited;
         opening_limited = g.opening_limited;
         requests = g.requests;

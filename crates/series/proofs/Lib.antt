@@ -1,3 +1,4 @@
 pub mod Limit
+pub mod Interest
 pub mod Keeps
 pub mod Dropped

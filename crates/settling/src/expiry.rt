@@ -1,5 +1,5 @@
 // One series after an evening: exercise, then expiry.
-ghost use Rattle.std.specs.Prelude.{◌≡◌, ◌≤◌, ◌<◌, pos, ◌+ℤ◌, replicate};
+ghost use Rattle.std.specs.Prelude.{◌≡◌, ◌≤◌, ◌<◌, ◌+ℤ◌};
 ghost use Rattle.choice.specs.Choice.{choose};
 ghost use Rattle.places.specs.Places.{places};
 ghost use Rattle.integer.specs.Bounds.{Bounded};
@@ -15,11 +15,11 @@ use places::PLACES;
 use series::state::Series;
 use std::array::from_fn;
 
-// The positions that stand after the evening: those that remain, 0 on the last day.
-fn closing(remaining: [i32; PLACES], last: bool) -> [i32; PLACES]
-    ensures { result ≡ choose last (replicate places (pos 0)) remaining }
+// What stands after the evening, of the positions or of their open interest: what exercise leaves, and nothing on the last day.
+fn closing<T: Copy>(remaining: T, none: T, last: bool) -> T
+    ensures { result ≡ choose last none remaining }
 {
-    if last { [0i32; PLACES] } else { remaining }
+    if last { none } else { remaining }
 }
 
 // The futures of each place, and those that arose.
@@ -42,12 +42,13 @@ pub fn settle(s: Series, day: u32) -> Series
         strike: s.listing.strike,
         price: s.mark.future,
     };
-    let outcome = delivery::evening(fixing, s.positions, s.requests, s.declined);
-    let positions = closing(outcome.positions, last);
+    let outcome = delivery::evening(fixing, s.positions, s.open_interest, s.requests, s.declined);
+    let positions = closing(outcome.positions, [0i32; PLACES], last);
     Series {
         listing: s.listing,
         mark: no_mark(),
         evening_price: s.mark.option,
+        open_interest: closing(outcome.open_interest, 0, last),
         positions,
         opening: positions,
         requests: [0u32; PLACES],

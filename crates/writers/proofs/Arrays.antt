@@ -3,7 +3,7 @@
 use mathlib.Core.Bool.{Bool}
 use mathlib.Core.List.{List}
 use mathlib.Core.Path.{◌≡◌, refl, sym, ap, ap₂, ◌∙◌}
-use Prim.Native.Nat.{ℕ, ◌≤◌, ◌<◌, ◌^◌}
+use Prim.Native.Nat.{ℕ, ◌-◌, ◌≤◌, ◌<◌}
 use native.Mathlib.Nat.{le_trans}
 use native.Mathlib.Decide.{dec_lt}
 use native.Mathlib.Omega.{arith}
@@ -12,7 +12,7 @@ use lib.ListN.{length, get_or-replicate, replicate, get_or-eq_default}
 use Rattle.integer.proofs.Absolute.{abs_parts}
 use Rattle.integer.specs.Bounds.{Bounded}
 use Rattle.integer.specs.Sum.{sumℕ, sum_to}
-use Rattle.integer.proofs.NatSum.{sumℕ_ext, sumℕ_bound}
+use Rattle.integer.proofs.NatSum.{sumℕ_ext}
 use Rattle.integer.specs.Table.{at, table}
 use Rattle.integer.proofs.Table.{length_table, get_or_table, is_table, table_ext}
 use Rattle.terms.specs.Bounds.{max_position}
@@ -21,8 +21,10 @@ use Rattle.exercise.specs.declared.types.Outcome.{Outcome}
 use Rattle.places.specs.Places.{places, amount, flag}
 use Rattle.exercise.specs.Exercise.{held, short}
 use Rattle.exercise.specs.Assignment.{assigned}
+use Rattle.exercise.specs.Interest.{held_in_all, short_in_all}
 use Rattle.exercise.specs.Evening.{shrunk, futures, exercised_at, exercised_in_all, assigned_at, remaining, arisen, outcome}
 use Rattle.exercise.proofs.Assigning.{assigned_ext, assigned_no_more}
+use Rattle.exercise.proofs.Interest.{interest_left}
 use Rattle.exercise.proofs.Session.{exercised_no_more, exercised_covered, all_remain, none_arise}
 
 -- an array that is a table has the table's numbers
@@ -49,11 +51,9 @@ module _ (positions : List ℤ) (shorts : List ℕ) (shorts-is : shorts ≡ tabl
   shorts_at : (k : ℕ) → k < places → amount shorts k ≡ short (at positions k)
   shorts_at = amount_table places (λ k. short (at positions k)) shorts shorts-is
 
-  pub shorts_in_all : sumℕ places (amount shorts) ≡ sumℕ places (λ k. short (at positions k))
-  shorts_in_all = sumℕ_ext places (amount shorts) (λ k. short (at positions k)) shorts_at
-
-  pub shorts_fit : Bounded max_position positions → sumℕ places (amount shorts) < 2 ^ 32
-  shorts_fit h = omega (arith, shorts_in_all, sumℕ_bound places max_position (λ k. short (at positions k)) (λ k lt. short_few positions h k))
+  pub shorts_in_all : short_in_all positions ≡ sumℕ places (amount shorts)
+  unfolding short_in_all
+  shorts_in_all = sym (sumℕ_ext places (amount shorts) (λ k. short (at positions k)) shorts_at)
 
   pub shorts_assigned : (e : ℕ) → table places (assigned places e (amount shorts)) ≡ table places (assigned places e (λ k. short (at positions k)))
   shorts_assigned e =
@@ -80,21 +80,27 @@ module _ (fixing : Fixing) (positions : List ℤ) (requests : List ℕ) (decline
       (λ k lt. le_trans (exercised_no_more fixing (at positions k) (amount requests k) (flag declined k)) (held_few positions bounded k))
 
   -- nothing is exercised
-  pub nothing_done : length positions ≡ places → e ≡ 0
-      → ◌≡◌ {A = Outcome} (record { positions = positions; futures = replicate places (pos 0) }) (outcome fixing positions requests declined)
+  pub nothing_done : length positions ≡ places → e ≡ 0 → (interest : ℕ) → interest ≡ held_in_all positions
+      → ◌≡◌ {A = Outcome} (record { positions = positions; futures = replicate places (pos 0); open_interest = interest }) (outcome fixing positions requests declined)
   unfolding outcome
-  nothing_done long z =
+  nothing_done long z interest kept =
       let none : exercised_in_all places fixing (at positions) (amount requests) (flag declined) ≡ 0 = sym in_all ∙ z in
+      let same : positions ≡ table places (remaining places fixing (at positions) (amount requests) (flag declined)) =
+      is_table places (remaining places fixing (at positions) (amount requests) (flag declined)) positions (pos 0) long
+      (λ k lt. sym (all_remain places fixing (at positions) (amount requests) (flag declined) none k lt)) in
       λ i. record {
-        positions = is_table places (remaining places fixing (at positions) (amount requests) (flag declined)) positions (pos 0) long
-            (λ k lt. sym (all_remain places fixing (at positions) (amount requests) (flag declined) none k lt)) i;
+        positions = same i;
         futures = is_table places (arisen places fixing (at positions) (amount requests) (flag declined)) (replicate places (pos 0)) (pos 0) refl
             (λ k lt. get_or-replicate places k (pos 0) (pos 0) lt ∙ sym (none_arise places fixing (at positions) (amount requests) (flag declined) none k lt)) i;
+        open_interest = (kept ∙ ap held_in_all same) i;
       }
 
-  -- no more is exercised than is short
-  pub enough : sum_to places (at positions) ≡ pos 0 → e ≤ sumℕ places (λ k. short (at positions k))
+  -- no more is exercised than is short, nor than is held
+  enough : sum_to places (at positions) ≡ pos 0 → e ≤ sumℕ places (λ k. short (at positions k))
   enough level = omega (arith, in_all, exercised_covered places fixing (at positions) (amount requests) (flag declined) level)
+
+  pub enough_held : sum_to places (at positions) ≡ pos 0 → (interest : ℕ) → interest ≡ held_in_all positions → e ≤ interest
+  enough_held level interest kept = omega (arith, in_all, kept, interest_left fixing positions requests declined level)
 
   module _ (level : sum_to places (at positions) ≡ pos 0) (given : List ℕ) (given_is : given ≡ table places (assigned places e (λ k. short (at positions k)))) where
     pub assigned_few : (k : ℕ) → amount given k ≤ max_position
@@ -108,15 +114,21 @@ module _ (fixing : Fixing) (positions : List ℤ) (requests : List ℕ) (decline
         ∙ ap (λ (m : ℕ). assigned places m (λ j. short (at positions j)) k) in_all
 
     pub all_done : (r : Outcome)
+        → (interest : ℕ) → interest ≡ held_in_all positions
         → r ≡ record {
           positions = table places (λ k. shrunk (at positions k) (amount xs k) (amount given k));
           futures = table places (λ k. futures fixing.option (amount xs k) (amount given k));
+          open_interest = interest - e;
         }
         → r ≡ outcome fixing positions requests declined
     unfolding outcome remaining arisen
-    all_done r e = e ∙ (λ i. record {
+    all_done r interest kept is = is ∙ (λ i. record {
       positions = table_ext places (λ k. shrunk (at positions k) (amount xs k) (amount given k)) (remaining places fixing (at positions) (amount requests) (flag declined))
           (λ k lt. ap₂ (shrunk (at positions k)) (xs_at k lt) (given_at k lt)) i;
       futures = table_ext places (λ k. futures fixing.option (amount xs k) (amount given k)) (arisen places fixing (at positions) (amount requests) (flag declined))
           (λ k lt. ap₂ (futures fixing.option) (xs_at k lt) (given_at k lt)) i;
+      open_interest = left i;
     })
+      where
+        left : interest - e ≡ held_in_all (table places (remaining places fixing (at positions) (amount requests) (flag declined)))
+        left = omega (arith, kept, in_all, interest_left fixing positions requests declined level)

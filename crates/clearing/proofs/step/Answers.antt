@@ -2,8 +2,8 @@
 use mathlib.Core.Path.{◌≡◌, ap, ◌∙◌}
 use Prim.Native.Nat.{◌<◌}
 use native.Mathlib.Omega.{arith}
-use Rattle.terms.specs.Bounds.{blotter_room, max_position}
-use Rattle.integer.specs.Bounds.{Bounded}
+use Rattle.terms.specs.Bounds.{blotter_room}
+use Rattle.series.specs.Good.{GoodSeries}
 use Rattle.book.specs.Effects.{Fits, effect_of}
 use Rattle.book.specs.Good.{Good}
 use Rattle.book.specs.State.{series_at, today_of}
@@ -21,8 +21,8 @@ stepped : (b : Book) (e : Event) → Good b → {r : Step} → r ≡ step_of b e
 stepped b e g is = (is, stays_good b e _ g is)
 
 -- where the effect is known
-bounded : (c : After-effect-effect) → Bounded max_position (series_at c.args.book c.series_of-i.result).positions
-bounded c = (c.requires.series c.series_of-i.result c.if-i-ge-SERIES.false).positions.bounded
+good : (c : After-effect-effect) → GoodSeries c.args.book.day (series_at c.args.book c.series_of-i.result)
+good c = c.requires.series c.series_of-i.result c.if-i-ge-SERIES.false
 
 acts : (c : After-effect-effect) → c.effect-effect.result ≡ effect_at c.args.book c.series_of-i.result c.args.event
 acts c =
@@ -30,7 +30,7 @@ acts c =
     c.effect-effect.ensures ∙ ap (λ (t : Today). effect_of t s.listing s.positions c.args.event) c.today_of-today.ensures
 
 fits : (c : After-effect-effect) → Fits c.effect-effect.result
-fits c = rw (acts c) (effect_fits (today_of c.args.book) (series_at c.args.book c.series_of-i.result).listing _ (bounded c) c.args.event)
+fits c = rw (acts c) (effect_fits (today_of c.args.book) (series_at c.args.book c.series_of-i.result).listing _ (good c).positions.bounded c.args.event)
 
 trade_type : (c : After-next_record-n) → c.next_record-n.result < blotter_room
 trade_type c = rw c.next_record-n.ensures (next_record_within _)
@@ -41,10 +41,15 @@ returns-then-i-ge-SERIES c = stepped c.args.book c.args.event c.requires c.whole
 pub effect-effect-requires : goal.effect-effect-requires
 effect-effect-requires c = let n = c.series_of-i in rw (← n.ensures, c.today_of-today.ensures) (c.requires.tick n.result)
 
+pub interest-s-requires : goal.interest-s-requires
+interest-s-requires c =
+    let known = (goal.at.interest-s-requires c).After-effect-effect in
+    (fits known, (good known).positions.bounded, (good known).interest)
+
 pub move_positions-requires : goal.move_positions-requires
 move_positions-requires c =
     let known = (goal.at.move_positions-requires c).After-effect-effect in
-    (fits known, bounded known)
+    (fits known, (good known).positions.bounded)
 
 pub set_request-requires : goal.set_request-requires
 set_request-requires c = fits (goal.at.set_request-requires c).After-effect-effect
@@ -71,6 +76,7 @@ returns c =
     (record {
       answer = c.answer.ensures;
       moved = c.move_positions.ensures;
+      kept = c.interest-s.ensures;
       requested = c.set_request.ensures;
       declining = c.set_decline.ensures;
       mark = c.mark-s.ensures;

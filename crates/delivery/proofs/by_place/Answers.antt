@@ -16,4 +16,5 @@ returns c =
     λ i. record {
       positions = made_table _ _ (λ k. shrunk (at a.positions k) (amount a.exercised k) (amount a.assigned k)) _ (λ k x d lt call. search rules) _ c.from_fn.ensures.items i;
       futures = made_table _ _ (λ k. futures a.option (amount a.exercised k) (amount a.assigned k)) _ (λ k x d lt call. search rules) _ c.from_fn-2.ensures.items i;
+      open_interest = a.left;
     }

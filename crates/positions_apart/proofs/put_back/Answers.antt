@@ -1,4 +1,4 @@
--- `positions_apart::put_back` meets its contract: the series passed have their positions back.
+-- `positions_apart::put_back` meets its contract: the series passed have their positions and open interest back.
 use borrow.Author.Rules.{rules}
 use mathlib.Core.Path.{refl}
 use native.Mathlib.Omega.{arith}

@@ -3,18 +3,18 @@
 -- positions put back.
 use Rattle.std.proofs.Common.{◌≡◌, ℕ, ◌+◌, ◌%◌, ◌^◌, ◌<◌, List, length, sym, refl, ap, ◌∙◌, subst, ap₂, arith, length-set}
 use Rattle.calendar.specs.Days.{dates_of}
-use Rattle.integer.specs.Bounds.{Bounded}
 use Rattle.integer.proofs.Table.{length_table}
-use Rattle.terms.specs.Bounds.{series_room, blotter_room, max_position}
-use Rattle.series.specs.Series.{with_positions}
+use Rattle.terms.specs.Bounds.{series_room, blotter_room}
+use Rattle.series.specs.Good.{GoodSeries}
 use Rattle.series.specs.declared.state.Series.{Series}
-use Rattle.book.specs.Apart.{held_at, rejoined}
-use Rattle.book.specs.Effects.{Fits, effect_of, answer_by, positions_by, requests_by, declines_by, mark_by, record_by, trades_by}
+use Rattle.book.specs.Apart.{held_at, with_held, rejoined}
+use Rattle.book.specs.Effects.{Fits, effect_of, answer_by, positions_by, interest_by, requests_by, declines_by, mark_by, record_by, trades_by}
 use Rattle.book.specs.Good.{Good}
 use Rattle.book.specs.State.{series_at, trade_at, today_of, with_all_series}
 use Rattle.book.specs.Step.{step_of}
 use Rattle.book.specs.declared.state.Book.{Book}
 use Rattle.book.specs.declared.state.Effect.{Effect}
+use Rattle.book.specs.declared.state.Event.{Event}
 use Rattle.book.specs.declared.state.Held.{Held}
 use Rattle.book.specs.declared.state.Today.{Today}
 use Rattle.book.proofs.Apart.{rejoined_taken, series_rejoined, stored_apart, traded_apart}
@@ -30,9 +30,13 @@ use Rattle.rows_in_place.proofs.whole_rows.Goals.{After-put_answer, After-put_ba
 use Rattle.rows_in_place.proofs.whole_rows.Goals as goal
 use Rattle.rows_in_place.proofs.whole_rows.Invariants.{UpTo}
 
--- the positions that stand apart are bounded, where the book with them put back is good
-bounded_at : (b : Book) (held : List Held) (i : ℕ) → i < series_room → Good (rejoined b held) → Bounded max_position (held_at held i).positions
-bounded_at b held i h good = subst (λ (s : Series). Bounded max_position s.positions) (series_rejoined b held i h) (good.series i h).positions.bounded
+-- a series with what stands apart of it is good, where the book with all of that put back is, and an effect on it fits
+module _ (b : Book) (held : List Held) (i : ℕ) (lt : i < series_room) (good : Good (rejoined b held)) where
+  good_at : GoodSeries b.day (with_held (series_at b i) (held_at held i))
+  good_at = subst (GoodSeries b.day) (series_rejoined b held i lt) (good.series i lt)
+
+  fits_at : (t : Today) (e : Event) {f : Effect} → f ≡ effect_of t (series_at b i).listing (held_at held i).positions e → Fits f
+  fits_at t e is = rw is (effect_fits t (series_at b i).listing _ good_at.positions.bounded e)
 
 -- ---- another row, or none: the positions are put back
 module _ (g : Over) (c : After-put_back-replay g) where
@@ -56,11 +60,11 @@ module _ (g : Over) (c : After-put_answer g) where
   row = found _ _ _ c.series_row.ensures _ _ _ c.in-Some.is
 
   -- its series, as it stands in the loop
-  its_series : series_at now c.in-Some.field-0.series ≡ with_positions (series_at c.loop-series.replay.book c.in-Some.field-0.series) (held_at c.loop-series.held c.in-Some.field-0.series).positions
+  its_series : series_at now c.in-Some.field-0.series ≡ with_held (series_at c.loop-series.replay.book c.in-Some.field-0.series) (held_at c.loop-series.held c.in-Some.field-0.series)
   its_series = series_rejoined c.loop-series.replay.book c.loop-series.held c.in-Some.field-0.series row.room
 
   fits : Fits c.effect-effect.result
-  fits = rw c.effect-effect.ensures (effect_fits _ (series_at c.loop-series.replay.book c.in-Some.field-0.series).listing _ (bounded_at c.loop-series.replay.book c.loop-series.held c.in-Some.field-0.series row.room good) c.in-Some.field-0.event)
+  fits = fits_at c.loop-series.replay.book c.loop-series.held _ row.room good _ _ c.effect-effect.ensures
 
   effect_is : c.effect-effect.result ≡ effect_at now c.in-Some.field-0.series c.in-Some.field-0.event
   effect_is =
@@ -163,11 +167,17 @@ effect-effect-requires g c =
     (series_rejoined c.loop-series.replay.book c.loop-series.held c.in-Some.field-0.series r.room) (c.loop-series.invariant.3.ready.good.tick c.in-Some.field-0.series) in
     rw (c.today_of-today.ensures, ← r.series) tick
 
+pub interest-h-requires : goal.interest-h-requires
+interest-h-requires g c =
+    let r = found _ _ _ c.series_row.ensures _ _ _ c.in-Some.is in
+    let s = good_at c.loop-series.replay.book c.loop-series.held _ r.room c.loop-series.invariant.3.ready.good in
+    (fits_at c.loop-series.replay.book c.loop-series.held _ r.room c.loop-series.invariant.3.ready.good _ _ c.effect-effect.ensures, s.positions.bounded, s.interest)
+
 pub move_positions-requires : goal.move_positions-requires
 move_positions-requires g c =
     let r = found _ _ _ c.series_row.ensures _ _ _ c.in-Some.is in
-    let k = bounded_at c.loop-series.replay.book c.loop-series.held c.in-Some.field-0.series r.room c.loop-series.invariant.3.ready.good in
-    (rw c.effect-effect.ensures (effect_fits _ (series_at c.loop-series.replay.book c.in-Some.field-0.series).listing _ k c.in-Some.field-0.event), k)
+    let s = good_at c.loop-series.replay.book c.loop-series.held _ r.room c.loop-series.invariant.3.ready.good in
+    (fits_at c.loop-series.replay.book c.loop-series.held _ r.room c.loop-series.invariant.3.ready.good _ _ c.effect-effect.ensures, s.positions.bounded)
 
 pub offset_bounds-held-series-in-loop-series : goal.offset_bounds-held-series-in-loop-series
 offset_bounds-held-series-in-loop-series g c = omega (arith, (found _ _ _ c.series_row.ensures _ _ _ c.in-Some.is).room)
@@ -211,6 +221,7 @@ loop-series-preserved-in-Traded g c =
     traded_apart b held c.in-Some.field-0.series c.next_record-n.result c.loop-series.invariant.1 c.loop-series.invariant.2 (row g n).room c.in-Some.field-0.event
     (row g n).series c.next_record-n.ensures c.in-Traded.field-0 (sym told ∙ effect_is g n)
     (c.move_positions.ensures ∙ ap₂ positions_by told (ap (λ (s : Series). s.positions) (sym (its_series g n))))
+    (c.interest-h.ensures ∙ (λ x. interest_by (told x) (sym (its_series g n) x).positions (sym (its_series g n) x).open_interest))
     (c.entry.ensures ∙ ap (λ (f : Effect). record_by f (trade_at b c.next_record-n.result)) told)
     (c.counted-replay.ensures ∙ ap (λ (f : Effect). trades_by f b.trades) told)
     in (
@@ -250,6 +261,7 @@ loop-series-preserved g c =
     (record {
       answer = c.answer.ensures;
       moved = c.move_positions.ensures ∙ ap (λ (x : Series). positions_by c.effect-effect.result x.positions) s;
+      kept = c.interest-h.ensures ∙ ap (λ (x : Series). interest_by c.effect-effect.result x.positions x.open_interest) s;
       requested = c.set_request.ensures ∙ ap (λ (x : Series). requests_by c.effect-effect.result x.requests) s;
       declining = c.set_decline.ensures ∙ ap (λ (x : Series). declines_by c.effect-effect.result x.declined) s;
       mark = c.mark-s.ensures ∙ ap (λ (x : Series). mark_by c.effect-effect.result x.mark) s;

@@ -1,15 +1,16 @@
 -- `writers::assign` meets its contract. Assumes nothing.
+use Rattle.std.proofs.Common.{rules}
 use mathlib.Core.Path.{refl, sym, ap, ◌∙◌}
 use Prim.Native.Nat.{ℕ}
 use native.Mathlib.Omega.{arith}
 use lib.ListN.{get_or-replicate}
-use Rattle.integer.specs.Table.{at}
+use Rattle.integer.specs.Table.{at, table}
 use Rattle.integer.proofs.Table.{is_table}
 use Rattle.places.specs.Places.{places}
 use Rattle.exercise.specs.Exercise.{short}
 use Rattle.exercise.specs.Assignment.{assigned}
 use Rattle.exercise.proofs.Assigning.{none_assigned}
-use Rattle.writers.proofs.Arrays.{shorts_in_all, shorts_fit, shorts_assigned}
+use Rattle.writers.proofs.Arrays.{shorts_in_all, shorts_assigned}
 use Rattle.writers.proofs.assign.Goals as goal
 
 pub returns-then-exercised-eq0 : goal.returns-then-exercised-eq0
@@ -20,12 +21,16 @@ returns-then-exercised-eq0 c =
 
 pub by_largest_remainders-requires : goal.by_largest_remainders-requires
 by_largest_remainders-requires c =
-    let p = c.args.positions in
-    let w = c.short_by_place in
-    (omega arith, omega (arith, shorts_in_all p w.result w.ensures, c.requires.1), shorts_fit p w.result w.ensures c.requires.0)
+    let w = c.short_by_place in (
+      omega (arith, c.from.ensures),
+      omega (arith, c.requires.0, c.from.ensures, c.from-2.ensures),
+      search rules,
+      c.from-2.ensures ∙ c.requires.1 ∙ shorts_in_all c.args.positions w.result w.ensures,
+    )
 
 pub returns : goal.returns
 returns c =
-    let s = c.before.before.before in
     let w = c.short_by_place in
-    c.by_largest_remainders.ensures ∙ shorts_assigned s.args.positions w.result w.ensures s.args.exercised
+    c.by_largest_remainders.ensures
+    ∙ shorts_assigned c.args.positions w.result w.ensures c.from.result
+    ∙ ap (λ (e : ℕ). table places (assigned places e (λ k. short (at c.args.positions k)))) c.from.ensures

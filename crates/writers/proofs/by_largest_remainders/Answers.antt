@@ -1,28 +1,33 @@
 -- `writers::by_largest_remainders` meets its contract: after each turn one place more is served, in the order of their ranks. Assumes nothing.
 use borrow.Author.Tests.{le-ltb}
-use mathlib.Core.Path.{◌≡◌, ap, ◌∙◌, subst}
+use mathlib.Core.Path.{◌≡◌, sym, ap, ◌∙◌, subst}
 use mathlib.Core.List.{List}
 use Prim.Native.Nat.{ℕ, ◌≤◌, ◌<◌, ◌-◌}
 use native.Mathlib.Omega.{arith}
 use lib.Dec.{ltb}
 use Rattle.integer.specs.Sum.{sumℕ, bit, count}
-use Rattle.integer.proofs.NatSum.{sumℕ_term}
+use Rattle.integer.proofs.NatSum.{sumℕ_ext, sumℕ_term}
 use Rattle.integer.proofs.Count.{count_most}
 use Rattle.integer.specs.Table.{table}
+use Rattle.integer.proofs.Table.{get_or_table}
 use Rattle.exercise.specs.declared.types.Shares.{Shares}
 use Rattle.places.specs.Places.{places, amount}
 use Rattle.exercise.specs.Assignment.{whole_part, remainder, rank, assigned}
 use Rattle.writers.proofs.Leftovers as law
-use Rattle.writers.proofs.by_largest_remainders.Goals.{After-loop-place, After-total-2}
+use Rattle.writers.proofs.by_largest_remainders.Goals.{After-loop-place, After-shares-parts}
 use Rattle.writers.proofs.by_largest_remainders.Goals as goal
 
 -- what is known once the shares are worked out
-module _ (c : After-total-2) where
+module _ (c : After-shares-parts) where
   abbrev e : ℕ
   e = c.args.exercised
 
   abbrev w : ℕ → ℕ
   w = amount c.args.shorts
+
+  -- what the writers are short in all
+  kept : c.args.interest ≡ sumℕ places w
+  kept = c.requires.3
 
   abbrev whole : List ℕ
   whole = c.shares-parts.result.whole
@@ -34,32 +39,39 @@ module _ (c : After-total-2) where
   some = c.requires.0
 
   enough : e ≤ sumℕ places w
-  enough = c.requires.1
+  enough = omega (arith, kept, c.requires.1)
 
   whole_is : whole ≡ table places (whole_part e (sumℕ places w) w)
-  whole_is = ap (λ (s : Shares). s.whole) c.shares-parts.ensures ∙ ap (λ (o : ℕ). table places (whole_part e o w)) c.total.ensures
+  whole_is = ap (λ (s : Shares). s.whole) c.shares-parts.ensures ∙ ap (λ (o : ℕ). table places (whole_part e o w)) kept
 
   rest_is : rest ≡ table places (remainder e (sumℕ places w) w)
-  rest_is = ap (λ (s : Shares). s.remainder) c.shares-parts.ensures ∙ ap (λ (o : ℕ). table places (remainder e o w)) c.total.ensures
+  rest_is = ap (λ (s : Shares). s.remainder) c.shares-parts.ensures ∙ ap (λ (o : ℕ). table places (remainder e o w)) kept
 
   in_all : sumℕ places (amount whole) ≤ e
   in_all = law.whole_most places e w whole rest some enough whole_is rest_is
 
-  left_few : e - c.total-2.result ≤ count places (λ k. ltb 0 (amount rest k))
-  left_few = omega (arith, c.total-2.ensures, law.left_remainders places e w whole rest some enough whole_is rest_is)
+  -- what is given out as whole contracts
+  given_is : c.shares-parts.result.given ≡ sumℕ places (amount whole)
+  given_is =
+      ap (λ (s : Shares). s.given) c.shares-parts.ensures
+      ∙ ap (λ (o : ℕ). sumℕ places (whole_part e o w)) kept
+      ∙ sym (sumℕ_ext places (amount whole) (whole_part e (sumℕ places w) w) (λ k lt. ap (λ (l : List ℕ). amount l k) whole_is ∙ get_or_table places (whole_part e (sumℕ places w) w) k 0 lt))
 
-  all : (out rest' : List ℕ) → law.Served places (amount rest) (amount whole) out rest' (e - c.total-2.result) → out ≡ table places (assigned places e w)
+  left_few : e - c.shares-parts.result.given ≤ count places (λ k. ltb 0 (amount rest k))
+  left_few = omega (arith, given_is, law.left_remainders places e w whole rest some enough whole_is rest_is)
+
+  all : (out rest' : List ℕ) → law.Served places (amount rest) (amount whole) out rest' (e - c.shares-parts.result.given) → out ≡ table places (assigned places e w)
   all out rest' S =
       law.all_served places e w whole rest some enough whole_is rest_is out rest'
-      (subst (λ (t : ℕ). law.Served places (amount rest) (amount whole) out rest' (e - t)) c.total-2.ensures S)
+      (subst (λ (t : ℕ). law.Served places (amount rest) (amount whole) out rest' (e - t)) given_is S)
 
 pub overflow_sub-left : goal.overflow_sub-left
-overflow_sub-left c = omega (arith, in_all c, c.total-2.ensures)
+overflow_sub-left c = let b = (goal.at.overflow_sub-left c).After-shares-parts in omega (arith, in_all b, given_is b)
 
 -- the place found is the next to be served
 module _ (c : After-loop-place) where
-  abbrev ready : After-total-2
-  ready = c.before.before.before.before
+  abbrev ready : After-shares-parts
+  ready = c.before.before.before.before.before.before.before
 
   found : law.Largest places (amount c.loop.rest) c.loop-place.largest
   found =
@@ -83,7 +95,7 @@ overflow_add-out c =
       ap bit (le-ltb (rank places (amount (rest b)) m) l.counter (omega (arith, next c))),
       sumℕ_term places (amount (whole b)) m (found c).below,
       in_all b,
-      b.total-2.ensures,
+      given_is b,
       b.requires,
     )
 
@@ -95,7 +107,7 @@ loop-preserved c =
 
 pub returns : goal.returns
 returns c =
-    let b = c.before.before in
+    let b = (goal.at.returns c).After-shares-parts in
     let l = c.loop in
-    let end : l.counter ≡ e b - b.total-2.result = omega arith in
+    let end : l.counter ≡ e b - b.shares-parts.result.given = omega arith in
     all b l.out l.rest (rw end at l.invariant.1)
