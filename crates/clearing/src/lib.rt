@@ -3,9 +3,10 @@
 
 mod whole; // whole.rt: events on the whole book
 
-ghost use Rattle.std.specs.Prelude.{◌≡◌};
+ghost use Rattle.std.specs.Prelude.{◌≡◌, false};
 ghost use Rattle.book.specs.Good.{Good};
-ghost use Rattle.book.specs.State.{empty_book};
+ghost use Rattle.book.specs.Interest.{open_interest};
+ghost use Rattle.book.specs.State.{empty_book, live};
 ghost use Rattle.book.specs.Step.{step_of};
 
 use book::state::{Book, Event, Step};
@@ -75,4 +76,17 @@ pub fn step(mut book: Book, event: Event) -> Step
         money: [0i64; ACCOUNTS],
         book,
     }
+}
+
+// The open interest of a series, 0 for a number that isn't listed or has expired.
+pub fn open_interest(book: &Book, series: u8) -> u32
+    requires { Good book.now }
+    ensures value { result ≡ open_interest book.now series }
+    ensures not_live { live book.now series ≡ false → result ≡ 0 }
+{
+    let i = series as usize;
+    if SERIES <= i {
+        return 0;
+    }
+    book.series[i].open_interest
 }
