@@ -112,6 +112,8 @@ pub struct Series {
     pub declined: Places<bool>,
     /// All futures that have arisen from the series.
     pub futures: Places<i64>,
+    /// RULES, "Open interest": the contracts that holders have, over all accounts and sections.
+    pub open_interest: i64,
 }
 
 /// A trade of the blotter. Its money is the accounts', whatever their sections.
@@ -204,6 +206,7 @@ impl Book {
             requests: NOTHING,
             declined: NOBODY,
             futures: NOTHING,
+            open_interest: 0,
         });
         Ok((self.series.len() - 1) as u8)
     }
@@ -223,8 +226,8 @@ impl Book {
         sold[sells.section] -= quantity;
         refuse_if(gross(&bought) > POSITION_LIMIT || gross(&sold) > POSITION_LIMIT, Refusal::PositionLimit)?;
         refuse_if(blotter_is_full, Refusal::BlotterFull)?;
-        series.positions[buys.account] = bought;
-        series.positions[sells.account] = sold;
+        series.change(buys, quantity);
+        series.change(sells, -quantity);
         self.blotter.push(Trade {
             series: number,
             buyer: buyer.account,
@@ -292,6 +295,7 @@ impl Book {
             }
             if day == series.last_day {
                 series.positions = NOTHING;
+                series.open_interest = 0;
             }
         }
         let mut money = self.variation_margin();
@@ -307,6 +311,11 @@ impl Book {
         self.paid = [0; ACCOUNTS];
         self.day += 1;
         Ok(Session { money, futures })
+    }
+
+    /// The open interest of a series, which is 0 if it isn't listed or has expired.
+    pub fn open_interest(&self, number: u8) -> i64 {
+        self.series.get(usize::from(number)).map_or(0, |series| series.open_interest)
     }
 
     /// The period that the day is in.
@@ -367,7 +376,15 @@ impl Book {
 }
 
 impl Series {
-    /// Exercise and assignment of an evening: positions shrink and futures arise.
+    /// One side of a trade: the open interest rises by what the section then holds more, or falls by what it holds less.
+    fn change(&mut self, Place { account, section }: Place, change: i64) {
+        let position = &mut self.positions[account][section];
+        let held = (*position).max(0);
+        *position += change;
+        self.open_interest += (*position).max(0) - held;
+    }
+
+    /// Exercise and assignment of an evening: positions and the open interest shrink, and futures arise.
     fn settle_exercise(&mut self, day: u64, number: u8, arisen: &mut Vec<(u8, u8, i64)>) {
         let exercised: Places<i64> =
             array::from_fn(|account| array::from_fn(|section| self.exercised(account, section, day)));
@@ -376,7 +393,8 @@ impl Series {
             return;
         }
         let short = self.positions.map(|sections| sections.map(|position| (-position).max(0)));
-        let assigned = assign(total, &short);
+        let assigned = assign(total, self.open_interest, &short);
+        self.open_interest -= total;
         for account in 0..ACCOUNTS {
             let mut of_account = 0;
             for section in 0..SECTIONS {
@@ -426,19 +444,18 @@ impl Series {
     }
 }
 
-/// RULES, "Assignment": shares `exercised` contracts out to the writers, who are `short` so much, in proportion; what is
-/// left over goes one each to the largest remainders, equal ones by account and then section.
-pub fn assign(exercised: i64, short: &Places<i64>) -> Places<i64> {
-    let all: i64 = short.as_flattened().iter().sum();
-    if all == 0 {
+/// RULES, "Assignment": shares `exercised` contracts out to the writers, who are `short` so much and the open interest in
+/// all, in proportion; what is left over goes one each to the largest remainders, equal ones by account and then section.
+pub fn assign(exercised: i64, open_interest: i64, short: &Places<i64>) -> Places<i64> {
+    if exercised == 0 {
         return NOTHING;
     }
-    let mut assigned = short.map(|sections| sections.map(|short| exercised * short / all));
+    let mut assigned = short.map(|sections| sections.map(|short| exercised * short / open_interest));
     let left = exercised - assigned.as_flattened().iter().sum::<i64>();
     let places = short.as_flattened().iter().enumerate();
     let mut writers: Vec<(Reverse<i64>, usize)> = places
         .filter(|&(_, &short)| short > 0)
-        .map(|(place, &short)| (Reverse(exercised * short % all), place))
+        .map(|(place, &short)| (Reverse(exercised * short % open_interest), place))
         .collect();
     writers.sort_unstable();
     for &(_, place) in writers.iter().take(left as usize) {

@@ -9,7 +9,7 @@ mod noise;
 mod periods;
 mod sections;
 
-use crate::book::{Book, ACCOUNTS, LAST_DAY, SECTIONS, SERIES};
+use crate::book::{Book, ACCOUNTS, LAST_DAY, SECTIONS, SERIES, TRADES_A_DAY};
 use crate::calendar::{Calendar, File};
 use crate::random::Random;
 use crate::rows::{self, find_crlf};
@@ -128,6 +128,20 @@ fn market_of(kind: Kind, seed: u64, calendar: &Calendar) -> Vec<u8> {
     let mut market = Market::new(random, style, dates, sections, calendar.clone());
     market.run();
     market.end()
+}
+
+/// Trades in series 0 by which half of the accounts come to hold as much as an account may, and the others to be short as
+/// much, a hundred of 1,000 contracts each; with an evening wherever the blotter is full.
+pub fn trades_to_the_limit() -> String {
+    let mut rows = String::new();
+    let holders = (0..ACCOUNTS / 2).flat_map(|holder| [holder; 100]);
+    for (trade, holder) in holders.enumerate() {
+        if trade > 0 && trade % TRADES_A_DAY == 0 {
+            rows += "M,0,0,0,100000\r\nV\r\n";
+        }
+        rows += &format!("T,0,{holder},{},1000,0\r\n", holder + ACCOUNTS / 2);
+    }
+    rows
 }
 
 /// Contract codes of a seed, sound and broken, as input bytes.

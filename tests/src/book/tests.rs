@@ -1,5 +1,6 @@
 use super::*;
 use crate::calendar::Calendar;
+use crate::market::trades_to_the_limit;
 use crate::rows;
 
 /// Applies a row that is well formed.
@@ -52,6 +53,11 @@ fn in_0(amounts: &[i64]) -> Places<i64> {
     first(amounts).map(|amount| [amount, 0])
 }
 
+/// Shares contracts out to writers who are all that there are.
+fn shared_out(exercised: i64, short: &Places<i64>) -> Places<i64> {
+    assign(exercised, short.as_flattened().iter().sum(), short)
+}
+
 const CALL: &str = "L,GAZR-3.23M150323CA17000,100,5";
 
 // RULES, "Values and splits".
@@ -67,15 +73,15 @@ fn half_of_five() {
 
 #[test]
 fn splits() {
-    assert_eq!(assign(3, &in_0(&[2, 2, 2])), in_0(&[1, 1, 1]));
-    assert_eq!(assign(2, &in_0(&[1, 1, 1])), in_0(&[1, 1, 0]));
+    assert_eq!(shared_out(3, &in_0(&[2, 2, 2])), in_0(&[1, 1, 1]));
+    assert_eq!(shared_out(2, &in_0(&[1, 1, 1])), in_0(&[1, 1, 0]));
     // Leftovers don't all go to account 0: 7 × 2, 3, 5 / 10 is 1.4, 2.1, 3.5.
-    assert_eq!(assign(7, &in_0(&[2, 3, 5])), in_0(&[1, 2, 4]));
+    assert_eq!(shared_out(7, &in_0(&[2, 3, 5])), in_0(&[1, 2, 4]));
     // 3 × 1, 2, 2 / 5 is 0.6, 1.2, 1.2 and 4 × 1, 2, 2 / 5 is 0.8, 1.6, 1.6.
-    assert_eq!(assign(3, &in_0(&[1, 2, 2])), in_0(&[1, 1, 1]));
-    assert_eq!(assign(4, &in_0(&[1, 2, 2])), in_0(&[1, 2, 1]));
-    assert_eq!(assign(0, &in_0(&[1, 2, 2])), in_0(&[]));
-    assert_eq!(assign(0, &in_0(&[])), in_0(&[]));
+    assert_eq!(shared_out(3, &in_0(&[1, 2, 2])), in_0(&[1, 1, 1]));
+    assert_eq!(shared_out(4, &in_0(&[1, 2, 2])), in_0(&[1, 2, 1]));
+    assert_eq!(shared_out(0, &in_0(&[1, 2, 2])), in_0(&[]));
+    assert_eq!(shared_out(0, &in_0(&[])), in_0(&[]));
 }
 
 #[test]
@@ -89,12 +95,12 @@ fn equal_remainders_go_by_account_and_then_section() {
         (5, [[1, 1], [1, 1], [1, 0]]),
         (6, [[1, 1], [1, 1], [1, 1]]),
     ] {
-        assert_eq!(assign(exercised, &short), in_both(&assigned));
+        assert_eq!(shared_out(exercised, &short), in_both(&assigned));
     }
     // The largest remainder comes first, whichever section it is in: 2 × 1, 2, 2, 1 / 6 is 0.33, 0.67, 0.67, 0.33.
-    assert_eq!(assign(2, &in_both(&[[1, 2], [2, 1]])), in_both(&[[0, 1], [1, 0]]));
+    assert_eq!(shared_out(2, &in_both(&[[1, 2], [2, 1]])), in_both(&[[0, 1], [1, 0]]));
     // An account is no writer of what its sections are short together: 1 × 2, 2, 3 / 7, and not 1 × 4, 3 / 7.
-    assert_eq!(assign(1, &in_both(&[[2, 2], [3, 0]])), in_both(&[[0, 0], [1, 0]]));
+    assert_eq!(shared_out(1, &in_both(&[[2, 2], [3, 0]])), in_both(&[[0, 0], [1, 0]]));
 }
 
 #[test]
@@ -109,7 +115,7 @@ fn shares_add_up_and_nobody_gets_more_than_he_is_short() {
         }
         let all: i64 = short.as_flattened().iter().sum();
         let exercised = random.between(0, all as u64) as i64;
-        let assigned = assign(exercised, &short);
+        let assigned = shared_out(exercised, &short);
         assert_eq!(assigned.as_flattened().iter().sum::<i64>(), exercised);
         let mut places = short.as_flattened().iter().zip(assigned.as_flattened());
         assert!(places.all(|(short, assigned)| (0..=*short).contains(assigned)));
@@ -722,4 +728,201 @@ fn each_section_starts_the_day_with_its_own_position() {
     assert_eq!(book.series[0].positions, book.series[0].opening);
     // 6 × 700 − 6 × 500.
     assert_eq!(book.cash, first(&[1200, -1200]));
+}
+
+// Open interest.
+
+/// The open interest of series 0: it is what its holders have, and what its writers are short.
+fn interest(book: &Book) -> i64 {
+    let positions = book.series[0].positions.as_flattened();
+    let held: i64 = positions.iter().filter(|&&position| position > 0).sum();
+    let short: i64 = positions.iter().filter(|&&position| position < 0).sum();
+    assert_eq!((book.series[0].open_interest, book.open_interest(0)), (held, -short));
+    held
+}
+
+/// Rows that are carried out, each with the open interest of series 0 after it.
+fn assert_interest(book: &mut Book, rows: &[(&str, i64)]) {
+    for &(row, expected) in rows {
+        run(book, row);
+        assert_eq!(interest(book), expected, "{row}");
+    }
+}
+
+#[test]
+fn a_trade_that_opens_on_both_sides_raises_the_open_interest() {
+    let mut book = book(CALL);
+    assert_eq!(interest(&book), 0);
+    // From nothing, of two others, and of a holder and a writer who have some.
+    assert_interest(&mut book, &[("T,0,1,2,10,0", 10), ("T,0,3,4,5,0", 15), ("T,0,1,2,3,0", 18), ("T,0,3,2,1,0", 19)]);
+    assert_eq!(book.series[0].positions, in_0(&[0, 13, -14, 6, -5]));
+}
+
+#[test]
+fn contracts_passed_from_holder_to_holder_leave_it() {
+    let mut book = book(&format!("{CALL} T,0,1,2,10,0"));
+    // To one who has none, to one who has some, and all that the first one has left.
+    assert_interest(&mut book, &[("T,0,3,1,4,0", 10), ("T,0,3,1,1,0", 10), ("T,0,4,1,5,0", 10)]);
+    assert_eq!(book.series[0].positions, in_0(&[0, 0, -10, 5, 5]));
+}
+
+#[test]
+fn contracts_passed_from_writer_to_writer_leave_it() {
+    let mut book = book(&format!("{CALL} T,0,1,2,10,0"));
+    assert_interest(&mut book, &[("T,0,2,3,4,0", 10), ("T,0,2,3,1,0", 10), ("T,0,2,4,5,0", 10)]);
+    assert_eq!(book.series[0].positions, in_0(&[0, 10, 0, -5, -5]));
+}
+
+#[test]
+fn a_trade_that_closes_on_both_sides_lowers_it() {
+    let mut book = book(&format!("{CALL} T,0,1,2,10,0 T,0,3,4,5,0"));
+    assert_interest(&mut book, &[("T,0,2,1,4,0", 11), ("T,0,4,1,5,0", 6), ("T,0,2,3,5,0", 1), ("T,0,2,1,1,0", 0)]);
+    assert_eq!(book.series[0].positions, in_0(&[]));
+}
+
+#[test]
+fn a_trade_across_0() {
+    // Account 1 holds 10, account 2 is short 10, account 3 holds 4 and account 4 is short 4.
+    for (row, positions, after) in [
+        // Both change sides: 10 are closed and 5 opened.
+        ("T,0,2,1,15,0", [0, -5, 5, 4, -4, 0], 9),
+        ("T,0,2,1,20,0", [0, -10, 10, 4, -4, 0], 14),
+        ("T,0,2,3,11,0", [0, 10, 1, -7, -4, 0], 11),
+        // The buyer does, the seller opens: 5 are opened; or has enough to sell: 4 are closed.
+        ("T,0,2,5,15,0", [0, 10, 5, 4, -4, -15], 19),
+        ("T,0,4,1,6,0", [0, 4, -10, 4, 2, 0], 10),
+        // The seller does, the buyer opens, or is short enough to buy.
+        ("T,0,5,1,15,0", [0, -5, -10, 4, -4, 15], 19),
+        ("T,0,2,3,6,0", [0, 10, -4, -2, -4, 0], 10),
+    ] {
+        let mut book = book(&format!("{CALL} T,0,1,2,10,0 T,0,3,4,4,0"));
+        assert_interest(&mut book, &[(row, after)]);
+        assert_eq!(book.series[0].positions, in_0(&positions), "{row}");
+    }
+}
+
+#[test]
+fn a_section_counts_though_the_other_is_short_as_much() {
+    let mut book = book(CALL);
+    assert_interest(&mut book, &[("T,0,1,2,10,0,0,0", 10), ("T,0,2,1,10,0,0,1", 10)]);
+    // No account has anything, both sections added.
+    assert_eq!(book.series[0].positions, in_both(&[[0, 0], [10, -10]]));
+    // In the sections of another account the same comes in the other order.
+    assert_interest(&mut book, &[("T,0,4,3,7,0,0,1", 17), ("T,0,3,4,7,0,0,0", 17)]);
+    assert_eq!(book.series[0].positions, in_both(&[[0, 0], [10, -10], [0, 0], [7, -7]]));
+    // Each of account 1's sections is closed by itself, against one of account 3's.
+    assert_interest(&mut book, &[("T,0,3,1,7,0,1,0", 10), ("T,0,1,3,7,0,1,0", 3)]);
+    assert_eq!(book.series[0].positions, in_both(&[[0, 0], [3, -3]]));
+}
+
+#[test]
+fn each_series_has_its_own() {
+    let mut book = book(&format!("{CALL} {CALL} {CALL} T,1,1,2,10,0 T,2,1,2,7,0 T,2,2,1,3,0"));
+    assert_eq!([0, 1, 2].map(|number| book.open_interest(number)), [0, 10, 4]);
+    run(&mut book, "X,1,1,6 X,2,1,1 M,0,0,0,100000 M,1,0,0,100000 M,2,0,0,100000 V");
+    assert_eq!([0, 1, 2].map(|number| book.open_interest(number)), [0, 4, 3]);
+}
+
+#[test]
+fn exercise_on_request_lowers_it_in_the_evening() {
+    let mut book = book(&format!("{CALL} T,0,1,2,10,0 T,0,3,2,4,0,1,1"));
+    let mark = "M,0,0,0,100000";
+    // A request by itself changes nothing, nor does an intraday session.
+    assert_interest(&mut book, &[("X,0,1,6", 14), ("X,0,3,4,1", 14), (mark, 14), ("I", 14), (mark, 14), ("V", 4)]);
+    assert_eq!(book.series[0].positions[1], [4, 0]);
+    // Of a request above what is left of the position, what is left.
+    assert_interest(&mut book, &[("X,0,1,4", 4), ("T,0,5,1,3,0", 4), (mark, 4), ("V", 3), (mark, 3), ("V", 3)]);
+}
+
+#[test]
+fn expiry_takes_it_to_0_whatever_is_exercised() {
+    // Of 5 and 4 calls: none, half of each, rounded up, and all.
+    for (futures, exercised) in [(1_699_999, 0), (1_700_000, 5), (1_700_001, 9)] {
+        let mut book = book("L,GAZR-3.23M150323CE17000,100,1 T,0,1,2,5,0 T,0,3,2,4,0,1,0");
+        let mark: &str = &format!("M,0,0,{futures},100000");
+        assert_interest(&mut book, &[(mark, 9), ("V", 9), (mark, 9), ("V", 0)]);
+        assert_eq!(book.series[0].futures[2], [-exercised, 0]);
+        assert_eq!(refused(&mut book, "T,0,1,2,1,0"), 3);
+        assert_interest(&mut book, &[("V", 0)]);
+    }
+}
+
+#[test]
+fn no_other_event_changes_it() {
+    let mut book = book("L,GAZR-3.23M150323CA17000,100,0 T,0,1,2,5,0");
+    for row in [CALL, "X,0,1,3", "D,0,1", "X,0,1,0", "D,0,2,1", "M,0,7,1700000,100000", "M,1,7,0,100000", "I"] {
+        assert_interest(&mut book, &[(row, 5)]);
+    }
+}
+
+#[test]
+fn a_refused_event_leaves_it() {
+    let mut book = book(CALL);
+    run(&mut book, &"T,0,1,2,1000,0 ".repeat(100));
+    run(&mut book, &"T,0,3,4,1,0 ".repeat(156));
+    assert_eq!(interest(&book), 100_156);
+    for (row, number) in [
+        ("T,1,3,4,1,0", 2),
+        ("T,0,3,64,1,0", 4),
+        ("T,0,3,4,1,0,2,0", 23),
+        ("T,0,3,3,1,0", 5),
+        ("T,0,3,4,1001,0", 6),
+        ("T,0,3,4,1,50", 7),
+        ("T,0,1,4,1,0", 8),
+        ("T,0,3,2,1,0", 8),
+        ("T,0,3,4,1,0", 9),
+        ("X,0,3,157", 13),
+        ("D,0,3", 12),
+        ("M,0,0,0,0", 14),
+        ("I", 16),
+        ("V", 16),
+    ] {
+        assert_eq!(refused(&mut book, row), number, "{row}");
+        assert_eq!(interest(&book), 100_156, "{row}");
+    }
+}
+
+#[test]
+fn it_can_be_looked_up_for_any_number() {
+    let all = |book: &Book| -> Vec<i64> { (0..=255).map(|number| book.open_interest(number)).collect() };
+    let with_first = |first: &[i64]| [first, &[0; 256][first.len()..]].concat();
+    assert_eq!(all(&Book::new()), with_first(&[]));
+    let mut book = book(&format!("L,GAZR-3.23M150323CA17000,100,0 {CALL} T,0,1,2,5,0 T,1,2,1,7,0"));
+    assert_eq!(all(&book), with_first(&[5, 7]));
+    run(&mut book, "M,0,0,0,100000 M,1,0,0,100000 V");
+    assert_eq!(all(&book), with_first(&[0, 7]));
+    run(&mut book, &format!("{CALL} ").repeat(6));
+    run(&mut book, "T,7,1,2,3,0");
+    assert_eq!(all(&book), with_first(&[0, 7, 0, 0, 0, 0, 0, 3]));
+}
+
+#[test]
+fn it_is_0_when_the_book_is_finished() {
+    let mut book = book(&"V ".repeat(999));
+    run(&mut book, "L,GAZR-3.23M150323CA17000,100,999");
+    assert_interest(&mut book, &[("T,0,1,2,5,0", 5), ("M,0,0,1700000,100000", 5), ("V", 0)]);
+    assert_eq!(refused(&mut book, "T,0,1,2,5,0"), 1);
+    assert_eq!(interest(&book), 0);
+}
+
+#[test]
+fn the_largest_there_can_be() {
+    let mut book = book("L,GAZR-3.23M150323CA17000,100,12");
+    run(&mut book, &trades_to_the_limit());
+    assert_eq!(interest(&book), 3_200_000);
+    assert_interest(&mut book, &[("M,0,0,1700001,100000", 3_200_000), ("V", 0)]);
+    let futures = array::from_fn(|account| [if account < 32 { 100_000 } else { -100_000 }, 0]);
+    assert_eq!(book.series[0].futures, futures);
+}
+
+#[test]
+fn assignment_divides_by_the_kept_number() {
+    // Of 4 exercised, 4 × 6, 4 / 10 is 2.4, 1.6.
+    let rows = format!("{CALL} T,0,1,2,6,0 T,0,1,3,4,0 X,0,1,4 M,0,0,0,100000");
+    assert_eq!(book(&format!("{rows} V")).series[0].futures, in_0(&[0, 4, -2, -2]));
+    // With a number that no list of events leaves there, 4 × 6, 4 / 24 is 1, 0.67, and each gets one that is left over.
+    let mut other = book(&rows);
+    other.series[0].open_interest = 24;
+    run(&mut other, "V");
+    assert_eq!(other.series[0].futures, in_0(&[0, 4, -2, -1]));
 }
