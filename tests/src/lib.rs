@@ -7,6 +7,7 @@ pub mod book;
 pub mod calendar;
 pub mod code_lines;
 pub mod codes;
+pub mod interest_lines;
 pub mod load;
 pub mod market;
 pub mod output;
@@ -83,6 +84,10 @@ pub const GATE_PERIOD_SEEDS: Range<u64> = FIRST_OF_PERIODS..FIRST_OF_PERIODS + 1
 pub fn gate_seeds() -> impl Iterator<Item = u64> {
     GATE_SEEDS.chain(GATE_SECTION_SEEDS).chain(GATE_PERIOD_SEEDS)
 }
+
+/// The markets on which it compares the open interest, some of each.
+pub const GATE_INTEREST: [Range<u64>; 3] =
+    [0..100, FIRST_WITH_SECTIONS..FIRST_WITH_SECTIONS + 60, FIRST_OF_PERIODS..FIRST_OF_PERIODS + 40];
 
 /// The seeds of the contract codes that it compares beside them.
 pub const GATE_CODES: Range<u64> = 0..200;

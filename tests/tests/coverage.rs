@@ -3,6 +3,8 @@
 
 #[path = "coverage/calendars.rs"]
 mod calendars;
+#[path = "coverage/interest.rs"]
+mod interest;
 #[path = "coverage/periods.rs"]
 mod periods;
 #[path = "coverage/sections.rs"]
@@ -16,12 +18,14 @@ use second::book::{
 };
 use second::calendar::{Calendar, File};
 use second::codes::{self, Style, Terms};
+use second::interest_lines::whole_rows;
 use second::market::{calendar, market, odd_calendar};
 use second::refusal::Refusal;
 use second::rows::{self, Rows};
-use second::{gate_seeds, GATE_CALENDARS, GATE_CODES};
+use second::{gate_seeds, GATE_CALENDARS, GATE_CODES, GATE_INTEREST};
 
 use calendars::{wanted_of_broken_calendars, wanted_of_listings_by_date};
+use interest::wanted_of_interest;
 use periods::{wanted_of_periods, Day};
 use sections::wanted_of_sections;
 
@@ -35,6 +39,8 @@ struct Census {
     by_date: Vec<u8>,
     /// The sessions of its present day.
     day: Day,
+    /// The largest of any series.
+    open_interest: i64,
 }
 
 impl Census {
@@ -94,6 +100,7 @@ impl Census {
             let answer = event.and_then(|event| book.apply(event));
             self.take_answer(&book, event.ok(), &answer);
             self.take_periods(&book, event.ok(), &answer);
+            self.take_interest(&book, event.ok(), &answer);
             self.take_sections(&book, row, event.ok(), &answer);
             self.take_listing(file, calendar, &book, row, &answer);
             if let Some(code) = code_of(row) {
@@ -212,6 +219,7 @@ impl Census {
             }
             self.take_requests(series, is_last_day);
             let given_up = given_up(series, after);
+            self.take_interest_of_evening(series, is_last_day, &given_up);
             if given_up != NOTHING {
                 self.take_remainders(series, &given_up);
                 self.take_places(series, is_last_day, &given_up);
@@ -486,10 +494,12 @@ fn every_refusal_and_every_kind_of_line() {
         .map(String::from),
     );
     wanted.extend(wanted_of_codes());
+    wanted.extend(wanted_of_interest());
     wanted.extend(wanted_of_listings_by_date());
     wanted.extend(wanted_of_periods());
     wanted.extend(wanted_of_sections());
     println!("{} rows, {} carried out", census.rows, census.carried_out);
+    println!("open interest up to {}", census.open_interest);
     census.print();
     census.demand(5, &wanted);
     census.demand(1, &wanted_of_broken_calendars());
@@ -517,6 +527,20 @@ fn every_kind_of_code_in_lines() {
     wanted.push("last LF missing".into());
     census.demand(5, &wanted);
     census.demand_both_styles();
+}
+
+/// As it is compared: without calendars, and as far as the rows are run.
+#[test]
+fn every_form_of_open_interest_in_lines() {
+    let mut census = Census::default();
+    for seed in GATE_INTEREST.into_iter().flatten() {
+        census.take(&File::Missing, whole_rows(&market(seed)));
+    }
+    println!("{} rows, {} carried out", census.rows, census.carried_out);
+    println!("open interest up to {}", census.open_interest);
+    census.print();
+    census.demand(5, &wanted_of_interest());
+    assert!(census.open_interest > POSITION_LIMIT);
 }
 
 #[test]

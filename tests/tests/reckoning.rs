@@ -81,7 +81,7 @@ impl Reckoning {
             let c = coefficient(tick_value, series.tick);
             let exercised = series.exercised(is_last_day, futures);
             let short = each_place(|account, section| (-series.position[account][section]).max(0));
-            let assigned = assign(exercised.as_flattened().iter().sum(), &short);
+            let assigned = assign(in_all(&exercised), in_all(&short), &short);
             let given_up = each_place(|account, section| exercised[account][section] - assigned[account][section]);
             let remains = match is_last_day {
                 true => NOTHING,
@@ -112,6 +112,10 @@ impl Reckoning {
 
 fn place(party: Party) -> (usize, usize) {
     (usize::from(party.account), party.section as usize)
+}
+
+fn in_all(amounts: &Amounts) -> i64 {
+    amounts.as_flattened().iter().sum()
 }
 
 fn each_place(amount: impl Fn(usize, usize) -> i64) -> Amounts {

@@ -1,7 +1,8 @@
 //! Runs a program on the markets of many seeds and compares its output, byte for byte, with the second implementation's:
 //! `compare PROGRAM DIRECTORY [FIRST COUNT]`. `compare codes PROGRAM DIRECTORY [FIRST COUNT]` does so with a program that
-//! reads contract codes, on the codes of many seeds. An input whose output differs is left in the directory, with its
-//! trading calendar.
+//! reads contract codes, on the codes of many seeds, and `compare interest PROGRAM DIRECTORY [FIRST COUNT]` with one that
+//! tells the open interest after each row, on markets without their calendars. An input whose output differs is left in the
+//! directory, with its trading calendar.
 
 use std::fs;
 use std::io::{self, ErrorKind, Read, Write};
@@ -17,11 +18,12 @@ use std::time::Duration;
 
 use second::calendar::{File, MOST_BYTES, MOST_DATES};
 use second::codes::Date;
-use second::market::{calendar, codes, kind, market, odd_calendar, with_days, with_sections};
+use second::interest_lines;
+use second::market::{calendar, codes, kind, market, odd_calendar, trades_to_the_limit, with_days, with_sections};
 use second::program::{finish, write_calendar, End, Folder, Program, PATIENCE};
 use second::random::Random;
 use second::rows::Rows;
-use second::{code_lines, gate_seeds, output, replay, GATE_CALENDARS, GATE_CODES};
+use second::{code_lines, gate_seeds, output, replay, GATE_CALENDARS, GATE_CODES, GATE_INTEREST};
 
 /// How long a program may take where it has next to nothing to do.
 const AT_ONCE: Duration = Duration::from_secs(5);
@@ -36,6 +38,7 @@ const REWRITTEN: usize = 50;
 enum Subject {
     Markets,
     Codes,
+    Interest,
 }
 
 struct Options {
@@ -77,7 +80,7 @@ struct Comparison {
 fn main() -> ExitCode {
     let words: Vec<String> = std::env::args().skip(1).collect();
     let Some(Options { subject, program, directory, seeds, calendars }) = options(&words) else {
-        eprintln!("usage: compare [codes] PROGRAM DIRECTORY [FIRST COUNT]");
+        eprintln!("usage: compare [codes | interest] PROGRAM DIRECTORY [FIRST COUNT]");
         return ExitCode::from(2);
     };
     if !program.is_file() {
@@ -100,6 +103,7 @@ fn main() -> ExitCode {
     match subject {
         Subject::Markets => comparison.markets(seeds, calendars),
         Subject::Codes => comparison.codes(seeds),
+        Subject::Interest => comparison.interest(seeds),
     }
     println!("{} passed, {} failed", comparison.passed, comparison.failed);
     if comparison.failed == 0 {
@@ -112,6 +116,9 @@ fn main() -> ExitCode {
 fn options(words: &[String]) -> Option<Options> {
     let (subject, gate, words) = match words {
         [word, rest @ ..] if word == "codes" => (Subject::Codes, GATE_CODES.collect(), rest),
+        [word, rest @ ..] if word == "interest" => {
+            (Subject::Interest, GATE_INTEREST.into_iter().flatten().collect(), rest)
+        }
         _ => (Subject::Markets, gate_seeds().collect(), words),
     };
     let (program, directory, seeds, calendars) = match words {
@@ -195,18 +202,35 @@ impl Comparison {
         }
     }
 
+    fn interest(&mut self, seeds: Vec<u64>) {
+        for seed in seeds {
+            let result = self.interest_of_market(seed);
+            self.count(&format!("open interest of market {seed} ({:?})", kind(seed)), result);
+        }
+        let result = self.ends_of_rows();
+        self.count("open interest where rows end", result);
+        let result = self.interest_of_endless_rows();
+        self.count("open interest of rows that go on and on", result);
+        let result = self.largest_interest();
+        self.count("largest open interest", result);
+    }
+
     /// The whole output on one market.
     fn market(&mut self, seed: u64) -> Result<(), String> {
         let (calendar, input) = (calendar(seed), market(seed));
         let expected = answers(&calendar, &input);
         self.put(&calendar)?;
-        let mut random = Random::new(seed);
-        let end = if random.one_in(4) {
-            self.program.run_on_file(&input)
-        } else {
-            self.program.run_on_pieces(&input, random)
-        };
+        let end = self.run_on_file_or_pieces(&input, seed);
         self.keep(&format!("market-{seed}"), &calendar, &input, check(end, &input, &expected))
+    }
+
+    fn run_on_file_or_pieces(&self, input: &[u8], seed: u64) -> End {
+        let mut random = Random::new(seed);
+        if random.one_in(4) {
+            self.program.run_on_file(input)
+        } else {
+            self.program.run_on_pieces(input, random)
+        }
     }
 
     /// The whole output on a calendar that is refused, or might be. The rows ask for the dates that it might have.
@@ -250,6 +274,50 @@ impl Comparison {
             succeeded(status)
         });
         self.keep(&format!("codes-{seed}"), &File::Missing, &input, result)
+    }
+
+    /// The whole output on one market. The program may stop reading before the market ends.
+    fn interest_of_market(&self, seed: u64) -> Result<(), String> {
+        let input = market(seed);
+        let end = self.run_on_file_or_pieces(&input, seed);
+        self.check_interest(&seed.to_string(), &input, end)
+    }
+
+    /// Inputs with hardly a row, and inputs with a trade that ends at any distance from the last byte that is read.
+    fn ends_of_rows(&self) -> Result<(), String> {
+        for input in ["", "V", "V\r", "\n\r", "V\r\n", "V\r\nV", "V\r\n\r", "\r\n\n\r\r\n"] {
+            self.interest_of("short", input.as_bytes())?;
+        }
+        for shift in 0..TRADE.len() {
+            self.interest_of("long", &trades_across_the_end(shift))?;
+        }
+        Ok(())
+    }
+
+    /// Far more than is read, on a pipe: whoever writes to it may find it closed.
+    fn interest_of_endless_rows(&self) -> Result<(), String> {
+        let input = format!("{LISTING}{}", TRADE.repeat(50_000)).into_bytes();
+        let end = self.program.run_on_pieces(&input, Random::new(0));
+        self.check_interest("endless", &input, end)
+    }
+
+    /// A series with as many contracts as the position limit lets accounts have.
+    fn largest_interest(&self) -> Result<(), String> {
+        let input = fullest_series();
+        let lines = String::from_utf8(interest_lines::lines(&input)).expect("lines are of digits and commas");
+        if !lines.contains(",3200000,") {
+            return Err("3,200,000 contracts are not reached".to_string());
+        }
+        self.interest_of("fullest", &input)
+    }
+
+    fn interest_of(&self, name: &str, input: &[u8]) -> Result<(), String> {
+        self.check_interest(name, input, self.program.run_on_file(input))
+    }
+
+    fn check_interest(&self, name: &str, input: &[u8], end: End) -> Result<(), String> {
+        let result = check(end, input, &interest_lines::lines(input));
+        self.keep(&format!("interest-{name}"), &File::Missing, input, result)
     }
 
     fn put(&mut self, calendar: &File) -> Result<(), String> {
@@ -480,6 +548,21 @@ fn listings_by_its_dates(calendar: &File) -> Vec<u8> {
     let File::Bytes(bytes) = calendar else { return ROWS.to_vec() };
     let dates = bytes.windows(6).filter(|digits| digits.iter().all(u8::is_ascii_digit));
     dates.take(60).flat_map(|date| [b"L,A-1.00M", date, b"CA1,1\r\n"].concat()).collect()
+}
+
+const LISTING: &str = "L,A-1.00M010100CA1,1,13\r\n";
+const TRADE: &str = "T,0,1,2,3,0\r\n";
+
+/// A listing, a long row that is none, and trades before and behind the last byte that is read.
+fn trades_across_the_end(shift: usize) -> Vec<u8> {
+    let no_row = "x".repeat(interest_lines::MOST_BYTES - 100 + shift);
+    format!("{LISTING}{no_row}\r\n{}", TRADE.repeat(10)).into_bytes()
+}
+
+/// A series with as much open interest as there can be, then an exercise, and its last day.
+fn fullest_series() -> Vec<u8> {
+    let end = "X,0,7,99999\r\nM,0,0,100,1\r\nV\r\nM,0,0,100,1\r\nV\r\n";
+    [LISTING, &trades_to_the_limit(), end].concat().into_bytes()
 }
 
 /// Whether the market of a seed has rows that leave their day to its calendar and find one there.
